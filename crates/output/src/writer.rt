@@ -1,9 +1,10 @@
 //! The writer: how far an output is filled. The output itself is lent to each call beside it.
 ghost use mathlib.Core.Path.{_≡_};
-ghost use Rattle.std.specs.Written.{decimal};
+ghost use Rattle.std.specs.Written.{decimal, signed};
 ghost use Rattle.output.specs.Text.{Added};
 ghost use Rattle.output.specs.Writers.{outOf, fresh};
 use crate::decimal::put_decimal;
+use crate::decimal::put_signed;
 use crate::room::put_text;
 
 /// The fill mark of an output, and how many lines were lost for want of room.
@@ -39,6 +40,17 @@ impl Writer {
         let mark = self.mark;
         let start = mark.min(out.len());
         let put = put_decimal(&mut out[start..], n);
+        self.mark = mark + put.size;
+        put.whole
+    }
+
+    /// The number in decimal with its sign, likewise.
+    pub fn signed(&mut self, out: &mut [u8], n: i32) -> bool
+        ensures { λ r. ⌜ Added (signed n) (outOf (now (self .entry)) (now (out .entry))) (outOf (now (self .exit)) (now (out .exit))) r ⌝ }
+    {
+        let mark = self.mark;
+        let start = mark.min(out.len());
+        let put = put_signed(&mut out[start..], n);
         self.mark = mark + put.size;
         put.whole
     }
