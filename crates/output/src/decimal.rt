@@ -32,5 +32,8 @@ pub fn put_signed(to: &mut [u8], n: i32) -> Put
     let mut at = Writer { mark: 0, lost: 0 };
     at.text(to, b"-");
     let whole = at.decimal(to, n.unsigned_abs());
-    Put { size: at.mark, whole }
+    Put {
+        size: at.mark,
+        whole,
+    }
 }

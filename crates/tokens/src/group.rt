@@ -41,10 +41,18 @@ pub struct ClosedBy {
 
 /// For each kind of group, in their order, what closes it.
 pub const CLOSED_BY: [ClosedBy; 4] = [
-    ClosedBy { closers: [true, false, false] },
-    ClosedBy { closers: [false, true, false] },
-    ClosedBy { closers: [true, false, false] },
-    ClosedBy { closers: [false, false, true] },
+    ClosedBy {
+        closers: [true, false, false],
+    },
+    ClosedBy {
+        closers: [false, true, false],
+    },
+    ClosedBy {
+        closers: [true, false, false],
+    },
+    ClosedBy {
+        closers: [false, false, true],
+    },
 ];
 
 impl GroupKind {

@@ -47,4 +47,5 @@ plainOps = record {
   takes = λ v m. true;
   taken = λ v m. m;
   drops = λ v m. true;
-  dropped = λ v m. m }
+  dropped = λ v m. m;
+}

@@ -88,7 +88,11 @@ pub impl Value for Plain as PlainValue {
     }
 
     fn make_list(list: &[u16], pool: &mut NoPool) -> Option<Plain> {
-        if list.len() == 0 { Some(Plain { number: 0 }) } else { None }
+        if list.len() == 0 {
+            Some(Plain { number: 0 })
+        } else {
+            None
+        }
     }
 
     fn take_use(&self, pool: &mut NoPool) -> bool {
@@ -103,6 +107,9 @@ pub impl Value for Plain as PlainValue {
         let mut at = Writer { mark: 0, lost: 0 };
         write_name(&mut at, to, Class::Count, place);
         let whole = at.signed(to, self.number);
-        Put { size: at.mark, whole }
+        Put {
+            size: at.mark,
+            whole,
+        }
     }
 }

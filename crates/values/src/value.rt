@@ -82,11 +82,10 @@ pub trait Value: Copy {
 
     /// A new list of the tokens, which nothing uses yet; nothing if its nodes are not free. Which list is chosen is left open.
     fn make_list(list: &[u16], pool: &mut Self::Pool) -> Option<Self>
-        ensures {
-            λ r. ⌜ elim r [
-                Some v ↦ MadeOf ops (tokens (now (list .entry))) (meaning (now (pool .entry))) (meaning (now (pool .exit))) v
-              | None ↦ (meaning (now (pool .exit)) ≡ meaning (now (pool .entry))) × (ltb (ops .free (meaning (now (pool .entry)))) (cost (tokens (now (list .entry)))) ≡ true) ] ⌝
-        };
+        ensures { λ r. ⌜ elim r [
+          | Some v ↦ MadeOf ops (tokens (now (list .entry))) (meaning (now (pool .entry))) (meaning (now (pool .exit))) v
+          | None ↦ (meaning (now (pool .exit)) ≡ meaning (now (pool .entry))) × (ltb (ops .free (meaning (now (pool .entry)))) (cost (tokens (now (list .entry)))) ≡ true)
+        ] ⌝ };
 
     /// One use more of its list, if it names one; nothing, and false, if that is not there or has the most uses.
     fn take_use(&self, pool: &mut Self::Pool) -> bool

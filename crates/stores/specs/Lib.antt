@@ -1,0 +1,4 @@
+pub mod Cells
+pub mod Faults
+pub mod Stores
+pub mod Flats
