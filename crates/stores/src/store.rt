@@ -12,11 +12,10 @@ use values::value::Value;
 pub trait Store<V: Value> {
     ghost model: { Self → StoreModel V };
 
-    law near: { (s : Self) → model s .reach ≤ topReach };
-
     /// How many places there are.
     fn reach(&self) -> u32
-        ensures { λ r. ⌜ r ≡ model (now (self .entry)) .reach ⌝ };
+        ensures value { λ r. ⌜ r ≡ model (now (self .entry)) .reach ⌝ }
+        ensures near { λ r. ⌜ r ≤ topReach ⌝ };
 
     /// How many blank cells can still be filled.
     fn spare(&self) -> u32
