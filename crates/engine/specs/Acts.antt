@@ -84,25 +84,29 @@ module _ {V M : Type 0} (k : Ops V M) where
   abbrev pub saving : Bool → Table V M → ℕ → Bool
   saving global t p = not global && (ltb 1 (t .level) && not (eqb (t .store .cells p .level) (t .level)))
 
-  -- why an assignment is refused
-  abbrev pub assignCause : Demand → Bool → Table V M → ℕ → Option Cause
-  assignCause d global t p = firstOf (
+  -- why an assignment is refused, in order
+  abbrev pub assignChecks : Demand → Bool → Table V M → ℕ → List (Bool × Cause)
+  assignChecks d global t p =
         (not (d .bounded), Place OutOfBounds p)
       ∷ (not (ltb p (t .store .reach)), Store (Beyond p))
       ∷ (not (d .fits), Place NoPlace p)
       ∷ (saving global t p && isFull (t .saves), Place NoEntry p)
       ∷ (not (d .affordable), Place NoNodes p)
-      ∷ (full (k .isZero) (t .store) p (d .zero && eqb (levelOf global t) 1), Store (Full p)) ∷ [])
+      ∷ (full (k .isZero) (t .store) p (d .zero && eqb (levelOf global t) 1), Store (Full p)) ∷ []
 
-  -- why a call is refused
-  abbrev pub causeOf : Act V → Table V M → Option Cause
-  causeOf (opens g) t = firstOf ((leb topLevel (t .level), Call TooDeep) ∷ (isFull (t .saves), Call NoEntry) ∷ [])
-  causeOf (closes kind l) t = firstOf (
+  -- why a call is refused, in order
+  abbrev pub checks : Act V → Table V M → List (Bool × Cause)
+  checks (opens g) t = (leb topLevel (t .level), Call TooDeep) ∷ (isFull (t .saves), Call NoEntry) ∷ []
+  checks (closes kind l) t =
         (not (ltb 1 (t .level) && (inGroup (t .group) kind && eqb l (t .level))), Call OtherGroup)
-      ∷ (ltb (t .pending .room) (heldIn (t .saves .held)), Call NoWords) ∷ [])
-  causeOf drops t = firstOf ((not (ltb 1 (t .level)), Call OtherGroup) ∷ [])
-  causeOf (sets global p s) t = assignCause (demandOf s (t .pool) p) global t p
-  causeOf (holds c) t = firstOf ((not (isCode c), Call OutOfBounds) ∷ (ltb 1 (t .level) && isFull (t .saves), Call NoEntry) ∷ [])
+      ∷ (ltb (t .pending .room) (heldIn (t .saves .held)), Call NoWords) ∷ []
+  checks drops t = (not (ltb 1 (t .level)), Call OtherGroup) ∷ []
+  checks (sets global p s) t = assignChecks (demandOf s (t .pool) p) global t p
+  checks (holds c) t = (not (isCode c), Call OutOfBounds) ∷ (ltb 1 (t .level) && isFull (t .saves), Call NoEntry) ∷ []
+
+  -- the first of these that applies
+  abbrev pub causeOf : Act V → Table V M → Option Cause
+  causeOf a t = firstOf (checks a t)
 
   -- a group is opened: a boundary keeps the outer one
   abbrev pub opened : Table V M → Group → Table V M

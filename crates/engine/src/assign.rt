@@ -1,14 +1,15 @@
 //! Assignments to registers.
 ghost use mathlib.Core.Path.{_≡_};
-ghost use mathlib.Core.Bool.{false, cond, not, _&&_};
+ghost use mathlib.Core.Bool.{true, false, cond, not, _&&_};
+ghost use Rattle.std.specs.Results.{isOk};
 ghost use Prim.Native.Nat.{ℕ};
 ghost use lib.Dec.{eqb, ltb};
 ghost use Rattle.std.specs.declared.option.Option.the-variants.{Some, None};
 ghost use Rattle.std.specs.declared.result.Result.the-variants.{Ok, Err};
 ghost use Rattle.save_stack.specs.Meanings.{stackOf};
 ghost use Rattle.save_stack.specs.Stacks.{StackModel};
-ghost use Rattle.engine.specs.Acts.{given, fresh, sets, causeOf, assignCause, assigned, tried, done};
-ghost use Rattle.engine.specs.Faults.{answerOf};
+ghost use Rattle.engine.specs.Acts.{given, fresh, sets, causeOf, assignChecks, assigned, tried, done};
+ghost use Rattle.engine.specs.Faults.{answerOf, firstOf};
 ghost use Rattle.engine.specs.Tables.{tableOf};
 use crate::demand::Demand;
 use crate::fault::Cause;
@@ -50,7 +51,7 @@ fn ready<S: Store<V>, V: Value>(
 ) -> Result<Cell<V>, EngineFault>
     ensures {
         λ r. ⌜ ((m : V·Value .Meaning) (q : StackModel ℕ) → r ≡ answerOf (S·Store .model (now (store .entry)) .cells place) nesting
-            (assignCause (V·Value .ops) demand global (tableOf (S·Store .model (now (store .entry))) m nesting (stackOf (now (saves .entry))) q) place)) ⌝
+            (firstOf (assignChecks (V·Value .ops) demand global (tableOf (S·Store .model (now (store .entry))) m nesting (stackOf (now (saves .entry))) q) place))) ⌝
     }
 {
     if !demand.bounded {
@@ -121,6 +122,35 @@ pub fn assign<S: Store<V>, V: Value>(
 {
     let demand = Demand::of_value(&value, pool, place);
     let old = ready(store, saves, nesting, global, place, demand)?;
+    put_in(store, pool, saves, nesting, global, place, value, old);
+    Ok(())
+}
+
+/// Makes a list and assigns it, at the current level or globally. Which list of the pool it becomes is left open.
+pub fn assign_list<S: Store<V>, V: Value>(
+    store: &mut S,
+    pool: &mut V::Pool,
+    saves: &mut SaveStack<V>,
+    nesting: Nesting,
+    global: bool,
+    place: u32,
+    list: &[u16],
+) -> Result<(), EngineFault>
+    ensures answer {
+        λ r. ⌜ ((b : ℕ) (q : StackModel ℕ) → r ≡ answerOf tt nesting
+            (causeOf (V·Value .ops) (sets global place (fresh (now (list .entry)) b)) (tableOf (S·Store .model (now (store .entry))) (V·Value .meaning (now (pool .entry))) nesting (stackOf (now (saves .entry))) q))) ⌝
+    }
+    ensures table {
+        λ r. ⌜ ((b : ℕ) × (isOk r ≡ true → V·Value .ops .there (V·Value .meaning (now (pool .entry))) b ≡ false)
+            × ((q : StackModel ℕ) → tableOf (S·Store .model (now (store .exit))) (V·Value .meaning (now (pool .exit))) nesting (stackOf (now (saves .exit))) q
+            ≡ tried (V·Value .ops) (sets global place (fresh (now (list .entry)) b)) (tableOf (S·Store .model (now (store .entry))) (V·Value .meaning (now (pool .entry))) nesting (stackOf (now (saves .entry))) q))) ⌝
+    }
+{
+    let demand = Demand::of_list::<V>(list, pool, place);
+    let old = ready(store, saves, nesting, global, place, demand)?;
+    let Some(value) = V::make_list(list, pool) else {
+        return Err(EngineFault { cause: Cause::Place { refusal: Refusal::NoNodes, place }, nesting });
+    };
     put_in(store, pool, saves, nesting, global, place, value, old);
     Ok(())
 }
