@@ -1,13 +1,12 @@
 -- The calls on a table, one by one: when each is refused, and what it does.
 use mathlib.Core.Bool.{Bool, true, false, cond, not, _&&_}
 use mathlib.Core.List.{List, [], _∷_}
-use Prim.Native.Nat.{ℕ, _+_, _-_}
+use Prim.Native.Nat.{ℕ, _+_, _-_, max}
 use lib.Dec.{eqb, ltb, leb}
 use Rattle.std.specs.declared.option.Option.{Option}
 use Rattle.std.specs.declared.option.Option.the-variants.{Some, None}
 use Rattle.tokens.specs.Codes.{isCode, allCodes}
 use Rattle.tokens.specs.Classes.{isList}
-use Rattle.tokens.specs.Groups.{sameKind}
 use Rattle.tokens.specs.Limits.{topLevel}
 use Rattle.tokens.specs.declared.group.Group.{Group}
 use Rattle.tokens.specs.declared.group.GroupKind.{GroupKind}
@@ -27,6 +26,7 @@ use Rattle.engine.specs.declared.demand.Demand.{Demand}
 use Rattle.engine.specs.declared.fault.Cause.{Cause}
 use Rattle.engine.specs.declared.fault.Cause.the-variants.{Store, Place, Call}
 use Rattle.engine.specs.Faults.{firstOf, isNone}
+use Rattle.engine.specs.Nestings.{inGroup}
 use Rattle.engine.specs.Tables.{Table}
 
 -- what is assigned: a value, or a list of tokens that is made, as the list b
@@ -42,10 +42,9 @@ pub data Act (V : Type 0) : Type 0 where
   sets : Bool → ℕ → Source V → Act V
   holds : ℕ → Act V
 
--- whether the current group is of a kind
-abbrev pub inGroup : Option Group → GroupKind → Bool
-inGroup None k = false
-inGroup (Some g) k = sameKind (g .kind) k
+-- how many groups are closed from one level down to another, which is inside the last of them; no group is outside all groups
+abbrev pub unwoundTo : ℕ → ℕ → ℕ
+unwoundTo l level = (level + 1) - max l 2
 
 module _ {V M : Type 0} (k : Ops V M) where
 

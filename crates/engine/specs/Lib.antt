@@ -2,3 +2,4 @@ pub mod Nestings
 pub mod Faults
 pub mod Tables
 pub mod Acts
+pub mod Traces
