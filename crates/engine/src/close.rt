@@ -141,10 +141,9 @@ pub fn unwind<S: Store<V>, V: Value>(
                 (tableOf (S·Store .model (now (store .entry))) (V·Value .meaning (now (pool .entry))) (now (nesting .entry)) (stackOf (now (saves .entry))) (stackOf (now (pending .entry))))) ⌝
     }
 {
-    let mut closed = 0;
+    let from = nesting.level;
     while nesting.level > 1 && nesting.level >= level {
         pop_group(store, pool, saves, nesting, pending, writer, out, false);
-        closed += 1;
     }
-    closed
+    from - nesting.level
 }
