@@ -3,3 +3,4 @@ pub mod Faults
 pub mod Tables
 pub mod Acts
 pub mod Traces
+pub mod Listings

@@ -4,6 +4,7 @@ pub mod close;
 pub mod demand;
 pub mod fault;
 pub mod hold;
+pub mod listing;
 pub mod nesting;
 pub mod open_group;
 pub mod restore;

@@ -1,6 +1,7 @@
 //! The trait of a store.
 ghost use mathlib.Core.Path.{_≡_};
-ghost use Prim.Native.Nat.{_≤_};
+ghost use Prim.Native.Nat.{_≤_, _<_};
+ghost use Rattle.std.specs.declared.option.Option.the-variants.{Some, None};
 ghost use Rattle.tokens.specs.Limits.{topReach};
 ghost use Rattle.stores.specs.Cells.{cell as cellOf, blank};
 ghost use Rattle.stores.specs.Stores.{StoreModel, cellAt, verdict, writes, nextFilled};
@@ -36,5 +37,6 @@ pub trait Store<V: Value> {
 
     /// The least filled place at or after the given one.
     fn next_filled(&self, from: u32) -> Option<u32>
-        ensures { λ r. ⌜ r ≡ nextFilled (V·Value .ops .isZero) (model (now (self .entry))) from ⌝ };
+        ensures value { λ r. ⌜ r ≡ nextFilled (V·Value .ops .isZero) (model (now (self .entry))) from ⌝ }
+        ensures near { λ r. ⌜ elim r [ Some p ↦ p < topReach | None ↦ Unit {0} ] ⌝ };
 }

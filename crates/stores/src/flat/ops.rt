@@ -1,7 +1,8 @@
 //! What the flat store does.
 ghost use mathlib.Core.Path.{_≡_};
-ghost use Prim.Native.Nat.{ℕ, _≤_, min};
+ghost use Prim.Native.Nat.{ℕ, _≤_, _<_, min};
 ghost use lib.ListN.{length};
+ghost use Rattle.std.specs.declared.option.Option.the-variants.{Some, None};
 ghost use denote.Ref.{now};
 ghost use Rattle.tokens.specs.Limits.{topReach};
 ghost use Rattle.stores.specs.Cells.{isBlank};
@@ -57,7 +58,8 @@ fn count_blanks<V: Value>(cells: &[Cell<V>]) -> u32
 
 fn first_filled<V: Value>(cells: &[Cell<V>], from: u32) -> Option<u32>
     requires { ⌜ length (now cells) ≤ topReach ⌝ }
-    ensures { λ r. ⌜ r ≡ nextFilled (V·Value .ops .isZero) (row (V·Value .ops) (now (cells .entry))) from ⌝ }
+    ensures value { λ r. ⌜ r ≡ nextFilled (V·Value .ops .isZero) (row (V·Value .ops) (now (cells .entry))) from ⌝ }
+    ensures near { λ r. ⌜ elim r [ Some p ↦ p < topReach | None ↦ Unit {0} ] ⌝ }
 {
     let mut at = from;
     while (at as usize) < cells.len() {
