@@ -26,7 +26,6 @@ told-none {V = V} s p e h =
     omega arith
 
 module _ {V M : Type 0} (k : Ops V M) (s : StoreModel V) (m : M) where
-
   -- the first filled place q among n from p on has the next line
   pub record Found (p n q : ℕ) : Type 0 where
     pub low : p ≤ q

@@ -24,7 +24,6 @@ told-more o [] ys = refl
 told-more o (x ∷ xs) ys = told-more (wrote o x) xs ys
 
 module _ {V M : Type 0} (k : Ops V M) where
-
   -- a close takes one off the level
   pub pops-level : (keep : Bool) (es : List (Entry V)) (t : Table V M) → pops k keep es t .level ≡ t .level - 1
   pops-level keep [] t = refl
@@ -52,8 +51,8 @@ module _ {V M : Type 0} (k : Ops V M) where
 
     pub table-turn : after k (replicate (unwoundTo l (u .level)) drops) u ≡ after k (replicate (unwoundTo l (t .level)) drops) t
     table-turn =
-      ap (after k (replicate (unwoundTo l (u .level)) drops)) (sym tried-is)
-      ∙ sym (ap (λ (i : ℕ). after k (replicate i drops) t) count-turn)
+        ap (after k (replicate (unwoundTo l (u .level)) drops)) (sym tried-is)
+        ∙ sym (ap (λ (i : ℕ). after k (replicate i drops) t) count-turn)
 
     lines-is : linesOf k drops t ≡ popLines k false (t .saves .held) t
     lines-is = ap (λ (b : Bool). cond b (popLines k false (t .saves .held) t) []) (drops-pass t inside)
@@ -61,10 +60,10 @@ module _ {V M : Type 0} (k : Ops V M) where
     pub lines-turn : (o : Out) → told (told o (popLines k false (t .saves .held) t)) (allLines k (replicate (unwoundTo l (u .level)) drops) u)
         ≡ told o (allLines k (replicate (unwoundTo l (t .level)) drops) t)
     lines-turn o =
-      ap (λ (z : List (List ℕ)). told (told o z) (allLines k (replicate (unwoundTo l (u .level)) drops) u)) (sym lines-is)
-      ∙ ap (λ (z : Table V M). told (told o (linesOf k drops t)) (allLines k (replicate (unwoundTo l (u .level)) drops) z)) (sym tried-is)
-      ∙ sym (told-more o (linesOf k drops t) (allLines k (replicate (unwoundTo l (u .level)) drops) (tried k drops t)))
-      ∙ sym (ap (λ (i : ℕ). told o (allLines k (replicate i drops) t)) count-turn)
+        ap (λ (z : List (List ℕ)). told (told o z) (allLines k (replicate (unwoundTo l (u .level)) drops) u)) (sym lines-is)
+        ∙ ap (λ (z : Table V M). told (told o (linesOf k drops t)) (allLines k (replicate (unwoundTo l (u .level)) drops) z)) (sym tried-is)
+        ∙ sym (told-more o (linesOf k drops t) (allLines k (replicate (unwoundTo l (u .level)) drops) (tried k drops t)))
+        ∙ sym (ap (λ (i : ℕ). told o (allLines k (replicate i drops) t)) count-turn)
 
   -- the end of unwinding
   pub table-end : (t : Table V M) (n : ℕ) → n ≡ 0 → after k (replicate n drops) t ≡ t

@@ -34,7 +34,6 @@ allowed {r = r} x y n None e = let i : r ≡ x = cc in (i, refl, refl)
 allowed x y n (Some c) e = let z : _≡_ {A = ℕ} 0 1 = cc in absurd (omega arith)
 
 module _ {V M : Type 0} (k : Ops V M) (global : Bool) (t : Table V M) (p : ℕ) (s : Source V) (n : Nesting) (d : Demand) (asks : d ≡ demandOf k s (t .pool) p) where
-
   asked : {A : Type 0} (x : A) → answerOf x n (firstOf (assignChecks k d global t p)) ≡ answerOf x n (causeOf k (sets global p s) t)
   asked x = ap (λ (z : Demand). answerOf x n (firstOf (assignChecks k z global t p))) asks
 
@@ -42,16 +41,17 @@ module _ {V M : Type 0} (k : Ops V M) (global : Bool) (t : Table V M) (p : ℕ) 
   pub assign-refused : {f : EngineFault} → Err f ≡ answerOf (t .store .cells p) n (firstOf (assignChecks k d global t p))
       → (Err f ≡ answerOf (tt {0}) n (causeOf k (sets global p s) t)) × (t ≡ tried k (sets global p s) t)
   assign-refused e =
-    let r = refused (t .store .cells p) (tt {0}) n (causeOf k (sets global p s) t) (e ∙ asked (t .store .cells p)) in
-    (r .0, sym (ap (λ (b : Bool). cond (b && chosen k s (t .pool)) (assigned k global t p s) t) (r .1)))
+      let r = refused (t .store .cells p) (tt {0}) n (causeOf k (sets global p s) t) (e ∙ asked (t .store .cells p)) in
+      (r .0, sym (ap (λ (b : Bool). cond (b && chosen k s (t .pool)) (assigned k global t p s) t) (r .1)))
 
   -- one that is not is carried out
   pub assign-done : {u : Table V M} → chosen k s (t .pool) ≡ true → isNone (firstOf (assignChecks k d global t p)) ≡ true → u ≡ assigned k global t p s
       → (Ok (tt {0}) ≡ answerOf (tt {0}) n (causeOf k (sets global p s) t)) × (u ≡ tried k (sets global p s) t)
   assign-done {u = u} new none e =
-    let z : isNone (causeOf k (sets global p s) t) ≡ true = ap (λ (z : Demand). isNone (firstOf (assignChecks k z global t p))) (sym asks) ∙ none in
-    (answers (causeOf k (sets global p s) t) z,
-     e ∙ sym (ap (λ (b : Bool). cond (b && chosen k s (t .pool)) (assigned k global t p s) t) z ∙ ap (λ (b : Bool). cond b (assigned k global t p s) t) new))
+      let z : isNone (causeOf k (sets global p s) t) ≡ true = ap (λ (z : Demand). isNone (firstOf (assignChecks k z global t p))) (sym asks) ∙ none in (
+        answers (causeOf k (sets global p s) t) z,
+        e ∙ sym (ap (λ (b : Bool). cond (b && chosen k s (t .pool)) (assigned k global t p s) t) z ∙ ap (λ (b : Bool). cond b (assigned k global t p s) t) new),
+      )
     where
       answers : (o : Option Cause) → isNone o ≡ true → Ok (tt {0}) ≡ answerOf (tt {0}) n o
       answers None h = refl

@@ -47,7 +47,6 @@ abbrev pub unwoundTo : ℕ → ℕ → ℕ
 unwoundTo l level = (level + 1) - max l 2
 
 module _ {V M : Type 0} (k : Ops V M) where
-
   -- the value that a source gives
   abbrev pub valueOf : Source V → V
   valueOf (given v) = v
@@ -71,9 +70,17 @@ module _ {V M : Type 0} (k : Ops V M) where
   -- what an assignment to a place asks of a table
   abbrev pub demandOf : Source V → M → ℕ → Demand
   demandOf (given v) m p = record {
-    bounded = k .bounded v; fits = k .register p && (k .fits v p && listStands k v m); affordable = true; zero = k .isZero v }
+    bounded = k .bounded v;
+    fits = k .register p && (k .fits v p && listStands k v m);
+    affordable = true;
+    zero = k .isZero v;
+  }
   demandOf (fresh ts b) m p = record {
-    bounded = allCodes ts; fits = k .register p && isList (k .classOf p); affordable = leb (cost (tokens ts)) (k .free m); zero = nil (tokens ts) }
+    bounded = allCodes ts;
+    fits = k .register p && isList (k .classOf p);
+    affordable = leb (cost (tokens ts)) (k .free m);
+    zero = nil (tokens ts);
+  }
 
   -- the level at which a value is put
   abbrev pub levelOf : Bool → Table V M → ℕ
@@ -86,7 +93,7 @@ module _ {V M : Type 0} (k : Ops V M) where
   -- why an assignment is refused, in order
   abbrev pub assignChecks : Demand → Bool → Table V M → ℕ → List (Bool × Cause)
   assignChecks d global t p =
-        (not (d .bounded), Place OutOfBounds p)
+      (not (d .bounded), Place OutOfBounds p)
       ∷ (not (ltb p (t .store .reach)), Store (Beyond p))
       ∷ (not (d .fits), Place NoPlace p)
       ∷ (saving global t p && isFull (t .saves), Place NoEntry p)
@@ -97,7 +104,7 @@ module _ {V M : Type 0} (k : Ops V M) where
   abbrev pub checks : Act V → Table V M → List (Bool × Cause)
   checks (opens g) t = (leb topLevel (t .level), Call TooDeep) ∷ (isFull (t .saves), Call NoEntry) ∷ []
   checks (closes kind l) t =
-        (not (ltb 1 (t .level) && (inGroup (t .group) kind && eqb l (t .level))), Call OtherGroup)
+      (not (ltb 1 (t .level) && (inGroup (t .group) kind && eqb l (t .level))), Call OtherGroup)
       ∷ (ltb (t .pending .room) (heldIn (t .saves .held)), Call NoWords) ∷ []
   checks drops t = (not (ltb 1 (t .level)), Call OtherGroup) ∷ []
   checks (sets global p s) t = assignChecks (demandOf s (t .pool) p) global t p
@@ -110,17 +117,24 @@ module _ {V M : Type 0} (k : Ops V M) where
   -- a group is opened: a boundary keeps the outer one
   abbrev pub opened : Table V M → Group → Table V M
   opened t g = record {
-    store = t .store; pool = t .pool; level = t .level + 1; group = Some g;
-    saves = pushed (t .saves) (Boundary (t .group)); pending = t .pending }
+    store = t .store;
+    pool = t .pool;
+    level = t .level + 1;
+    group = Some g;
+    saves = pushed (t .saves) (Boundary (t .group));
+    pending = t .pending;
+  }
 
   -- a value is in its place. Its use is taken first; then the old cell is saved, or its use is dropped
   abbrev pub put-in : Bool → Bool → Table V M → ℕ → Source V → Table V M
   put-in save global t p s = record {
     store = writes (k .isZero) (t .store) p (cell (valueOf s) (levelOf global t));
     pool = cond save (k .taken (valueOf s) (poolOf s (t .pool))) (k .dropped (t .store .cells p .value) (k .taken (valueOf s) (poolOf s (t .pool))));
-    level = t .level; group = t .group;
+    level = t .level;
+    group = t .group;
     saves = cond save (pushed (t .saves) (Saved p (t .store .cells p))) (t .saves);
-    pending = t .pending }
+    pending = t .pending;
+  }
 
   -- an assignment
   abbrev pub assigned : Bool → Table V M → ℕ → Source V → Table V M
@@ -129,8 +143,13 @@ module _ {V M : Type 0} (k : Ops V M) where
   -- a token is held back, if there is a group
   abbrev pub heldBack : Bool → Table V M → ℕ → Table V M
   heldBack inside t c = record {
-    store = t .store; pool = t .pool; level = t .level; group = t .group;
-    saves = cond inside (pushed (t .saves) (Held c)) (t .saves); pending = t .pending }
+    store = t .store;
+    pool = t .pool;
+    level = t .level;
+    group = t .group;
+    saves = cond inside (pushed (t .saves) (Held c)) (t .saves);
+    pending = t .pending;
+  }
 
   -- the stack once its newest entry is off, with what is below it
   abbrev pub popped : Table V M → List (Entry V) → StackModel (Entry V)
@@ -141,13 +160,22 @@ module _ {V M : Type 0} (k : Ops V M) where
   unsaved below stays t p c es = record {
     store = cond stays (t .store) (writes (k .isZero) (t .store) p c);
     pool = cond below (k .dropped (cond stays (c .value) (t .store .cells p .value)) (t .pool)) (t .pool);
-    level = t .level; group = t .group; saves = popped t es; pending = t .pending }
+    level = t .level;
+    group = t .group;
+    saves = popped t es;
+    pending = t .pending;
+  }
 
   -- a held token is off the stack: on top of pending, or dropped
   abbrev pub unheld : Bool → Table V M → ℕ → List (Entry V) → Table V M
   unheld keep t c es = record {
-    store = t .store; pool = t .pool; level = t .level; group = t .group; saves = popped t es;
-    pending = cond keep (pushed (t .pending) c) (t .pending) }
+    store = t .store;
+    pool = t .pool;
+    level = t .level;
+    group = t .group;
+    saves = popped t es;
+    pending = cond keep (pushed (t .pending) c) (t .pending);
+  }
 
   -- a group is left: the outer one is the current one again
   abbrev pub left : Table V M → Option Group → StackModel (Entry V) → Table V M

@@ -20,7 +20,6 @@ leavingLines None l = []
 leavingLines (Some g) l = leaving g l ∷ []
 
 module _ {V M : Type 0} (k : Ops V M) where
-
   -- a saved cell comes off the stack: the register as it then stands, restored or retained
   abbrev pub unsavedLines : Bool → Bool → Table V M → ℕ → Cell V → M → List (List ℕ)
   unsavedLines below stays t p c m = cond below (cond stays (retaining (k .shown (t .store .cells p .value) m p)) (restoring (k .shown (c .value) m p)) ∷ []) []

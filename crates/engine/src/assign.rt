@@ -49,25 +49,50 @@ fn ready<S: Store<V>, V: Value>(
     place: u32,
     demand: Demand,
 ) -> Result<Cell<V>, EngineFault>
-    ensures {
-        λ r. ⌜ ((m : V·Value .Meaning) (q : StackModel ℕ) → r ≡ answerOf (S·Store .model (now (store .entry)) .cells place) nesting
-            (firstOf (assignChecks (V·Value .ops) demand global (tableOf (S·Store .model (now (store .entry))) m nesting (stackOf (now (saves .entry))) q) place))) ⌝
-    }
+    ensures { λ r. ⌜ ((m : V·Value .Meaning) (q : StackModel ℕ) → r ≡ answerOf (S·Store .model (now (store .entry)) .cells place) nesting
+        (firstOf (assignChecks (V·Value .ops) demand global (tableOf (S·Store .model (now (store .entry))) m nesting (stackOf (now (saves .entry))) q) place))) ⌝ }
 {
     if !demand.bounded {
-        return Err(EngineFault { cause: Cause::Place { refusal: Refusal::OutOfBounds, place }, nesting });
+        return Err(EngineFault {
+            cause: Cause::Place {
+                refusal: Refusal::OutOfBounds,
+                place,
+            },
+            nesting,
+        });
     }
     let Some(old) = store.cell(place) else {
-        return Err(EngineFault { cause: Cause::Store(StoreFault::Beyond { place }), nesting });
+        return Err(EngineFault {
+            cause: Cause::Store(StoreFault::Beyond { place }),
+            nesting,
+        });
     };
     if !demand.fits {
-        return Err(EngineFault { cause: Cause::Place { refusal: Refusal::NoPlace, place }, nesting });
+        return Err(EngineFault {
+            cause: Cause::Place {
+                refusal: Refusal::NoPlace,
+                place,
+            },
+            nesting,
+        });
     }
     if saves_old(global, nesting.level, old.level) && saves.is_full() {
-        return Err(EngineFault { cause: Cause::Place { refusal: Refusal::NoEntry, place }, nesting });
+        return Err(EngineFault {
+            cause: Cause::Place {
+                refusal: Refusal::NoEntry,
+                place,
+            },
+            nesting,
+        });
     }
     if !demand.affordable {
-        return Err(EngineFault { cause: Cause::Place { refusal: Refusal::NoNodes, place }, nesting });
+        return Err(EngineFault {
+            cause: Cause::Place {
+                refusal: Refusal::NoNodes,
+                place,
+            },
+            nesting,
+        });
     }
     let blank = demand.zero && level_of(global, nesting.level) == 1;
     raised(store.may_write(place, blank), nesting)?;
@@ -85,11 +110,9 @@ fn put_in<S: Store<V>, V: Value>(
     value: V,
     old: Cell<V>,
 )
-    ensures {
-        λ _. ⌜ (old ≡ S·Store .model (now (store .entry)) .cells place → (q : StackModel ℕ) →
-            tableOf (S·Store .model (now (store .exit))) (V·Value .meaning (now (pool .exit))) nesting (stackOf (now (saves .exit))) q
-            ≡ assigned (V·Value .ops) global (tableOf (S·Store .model (now (store .entry))) (V·Value .meaning (now (pool .entry))) nesting (stackOf (now (saves .entry))) q) place (given value)) ⌝
-    }
+    ensures { λ _. ⌜ (old ≡ S·Store .model (now (store .entry)) .cells place → (q : StackModel ℕ) →
+        tableOf (S·Store .model (now (store .exit))) (V·Value .meaning (now (pool .exit))) nesting (stackOf (now (saves .exit))) q
+        ≡ assigned (V·Value .ops) global (tableOf (S·Store .model (now (store .entry))) (V·Value .meaning (now (pool .entry))) nesting (stackOf (now (saves .entry))) q) place (given value)) ⌝ }
 {
     let saving = saves_old(global, nesting.level, old.level);
     value.take_use(pool);
@@ -111,14 +134,10 @@ pub fn assign<S: Store<V>, V: Value>(
     place: u32,
     value: V,
 ) -> Result<(), EngineFault>
-    ensures answer {
-        λ r. ⌜ ((q : StackModel ℕ) → r ≡ answerOf tt nesting
-            (causeOf (V·Value .ops) (sets global place (given value)) (tableOf (S·Store .model (now (store .entry))) (V·Value .meaning (now (pool .entry))) nesting (stackOf (now (saves .entry))) q))) ⌝
-    }
-    ensures table {
-        λ _. ⌜ ((q : StackModel ℕ) → tableOf (S·Store .model (now (store .exit))) (V·Value .meaning (now (pool .exit))) nesting (stackOf (now (saves .exit))) q
-            ≡ tried (V·Value .ops) (sets global place (given value)) (tableOf (S·Store .model (now (store .entry))) (V·Value .meaning (now (pool .entry))) nesting (stackOf (now (saves .entry))) q)) ⌝
-    }
+    ensures answer { λ r. ⌜ ((q : StackModel ℕ) → r ≡ answerOf tt nesting
+        (causeOf (V·Value .ops) (sets global place (given value)) (tableOf (S·Store .model (now (store .entry))) (V·Value .meaning (now (pool .entry))) nesting (stackOf (now (saves .entry))) q))) ⌝ }
+    ensures table { λ _. ⌜ ((q : StackModel ℕ) → tableOf (S·Store .model (now (store .exit))) (V·Value .meaning (now (pool .exit))) nesting (stackOf (now (saves .exit))) q
+        ≡ tried (V·Value .ops) (sets global place (given value)) (tableOf (S·Store .model (now (store .entry))) (V·Value .meaning (now (pool .entry))) nesting (stackOf (now (saves .entry))) q)) ⌝ }
 {
     let demand = Demand::of_value(&value, pool, place);
     let old = ready(store, saves, nesting, global, place, demand)?;
@@ -136,20 +155,22 @@ pub fn assign_list<S: Store<V>, V: Value>(
     place: u32,
     list: &[u16],
 ) -> Result<(), EngineFault>
-    ensures answer {
-        λ r. ⌜ ((b : ℕ) (q : StackModel ℕ) → r ≡ answerOf tt nesting
-            (causeOf (V·Value .ops) (sets global place (fresh (now (list .entry)) b)) (tableOf (S·Store .model (now (store .entry))) (V·Value .meaning (now (pool .entry))) nesting (stackOf (now (saves .entry))) q))) ⌝
-    }
-    ensures table {
-        λ r. ⌜ ((b : ℕ) × (isOk r ≡ true → V·Value .ops .there (V·Value .meaning (now (pool .entry))) b ≡ false)
-            × ((q : StackModel ℕ) → tableOf (S·Store .model (now (store .exit))) (V·Value .meaning (now (pool .exit))) nesting (stackOf (now (saves .exit))) q
-            ≡ tried (V·Value .ops) (sets global place (fresh (now (list .entry)) b)) (tableOf (S·Store .model (now (store .entry))) (V·Value .meaning (now (pool .entry))) nesting (stackOf (now (saves .entry))) q))) ⌝
-    }
+    ensures answer { λ r. ⌜ ((b : ℕ) (q : StackModel ℕ) → r ≡ answerOf tt nesting
+        (causeOf (V·Value .ops) (sets global place (fresh (now (list .entry)) b)) (tableOf (S·Store .model (now (store .entry))) (V·Value .meaning (now (pool .entry))) nesting (stackOf (now (saves .entry))) q))) ⌝ }
+    ensures table { λ r. ⌜ ((b : ℕ) × (isOk r ≡ true → V·Value .ops .there (V·Value .meaning (now (pool .entry))) b ≡ false)
+        × ((q : StackModel ℕ) → tableOf (S·Store .model (now (store .exit))) (V·Value .meaning (now (pool .exit))) nesting (stackOf (now (saves .exit))) q
+        ≡ tried (V·Value .ops) (sets global place (fresh (now (list .entry)) b)) (tableOf (S·Store .model (now (store .entry))) (V·Value .meaning (now (pool .entry))) nesting (stackOf (now (saves .entry))) q))) ⌝ }
 {
     let demand = Demand::of_list::<V>(list, pool, place);
     let old = ready(store, saves, nesting, global, place, demand)?;
     let Some(value) = V::make_list(list, pool) else {
-        return Err(EngineFault { cause: Cause::Place { refusal: Refusal::NoNodes, place }, nesting });
+        return Err(EngineFault {
+            cause: Cause::Place {
+                refusal: Refusal::NoNodes,
+                place,
+            },
+            nesting,
+        });
     };
     put_in(store, pool, saves, nesting, global, place, value, old);
     Ok(())

@@ -30,15 +30,16 @@ use values::value::Value;
 /// Leaves the current group: the outer one is the current one again.
 fn leave(nesting: &mut Nesting, writer: &mut Writer, out: &mut [u8], outer: Option<Group>)
     ensures nesting { λ _. ⌜ now (nesting .exit) ≡ inside (now (nesting .entry) .level - 1) outer ⌝ }
-    ensures traced {
-        λ _. ⌜ outOf (now (writer .exit)) (now (out .exit))
-            ≡ told (outOf (now (writer .entry)) (now (out .entry))) (leavingLines (now (nesting .entry) .group) (now (nesting .entry) .level)) ⌝
-    }
+    ensures traced { λ _. ⌜ outOf (now (writer .exit)) (now (out .exit))
+        ≡ told (outOf (now (writer .entry)) (now (out .entry))) (leavingLines (now (nesting .entry) .group) (now (nesting .entry) .level)) ⌝ }
 {
     if let Some(group) = nesting.group {
         leaving(writer, out, group, nesting.level);
     }
-    *nesting = Nesting { level: nesting.level.saturating_sub(1), group: outer };
+    *nesting = Nesting {
+        level: nesting.level.saturating_sub(1),
+        group: outer,
+    };
 }
 
 /// Takes the entries of the current group off the stack, newest first. The tokens that it held back go onto pending, or are dropped.
@@ -52,16 +53,12 @@ fn pop_group<S: Store<V>, V: Value>(
     out: &mut [u8],
     keep: bool,
 )
-    ensures table {
-        λ _. ⌜ tableOf (S·Store .model (now (store .exit))) (V·Value .meaning (now (pool .exit))) (now (nesting .exit)) (stackOf (now (saves .exit))) (stackOf (now (pending .exit)))
-            ≡ pops (V·Value .ops) keep (stackOf (now (saves .entry)) .held)
-                (tableOf (S·Store .model (now (store .entry))) (V·Value .meaning (now (pool .entry))) (now (nesting .entry)) (stackOf (now (saves .entry))) (stackOf (now (pending .entry)))) ⌝
-    }
-    ensures traced {
-        λ _. ⌜ outOf (now (writer .exit)) (now (out .exit))
-            ≡ told (outOf (now (writer .entry)) (now (out .entry))) (popLines (V·Value .ops) keep (stackOf (now (saves .entry)) .held)
-                (tableOf (S·Store .model (now (store .entry))) (V·Value .meaning (now (pool .entry))) (now (nesting .entry)) (stackOf (now (saves .entry))) (stackOf (now (pending .entry))))) ⌝
-    }
+    ensures table { λ _. ⌜ tableOf (S·Store .model (now (store .exit))) (V·Value .meaning (now (pool .exit))) (now (nesting .exit)) (stackOf (now (saves .exit))) (stackOf (now (pending .exit)))
+        ≡ pops (V·Value .ops) keep (stackOf (now (saves .entry)) .held)
+        (tableOf (S·Store .model (now (store .entry))) (V·Value .meaning (now (pool .entry))) (now (nesting .entry)) (stackOf (now (saves .entry))) (stackOf (now (pending .entry)))) ⌝ }
+    ensures traced { λ _. ⌜ outOf (now (writer .exit)) (now (out .exit))
+        ≡ told (outOf (now (writer .entry)) (now (out .entry))) (popLines (V·Value .ops) keep (stackOf (now (saves .entry)) .held)
+        (tableOf (S·Store .model (now (store .entry))) (V·Value .meaning (now (pool .entry))) (now (nesting .entry)) (stackOf (now (saves .entry))) (stackOf (now (pending .entry))))) ⌝ }
 {
     while let Some(entry) = saves.pop() {
         match entry {
@@ -93,26 +90,26 @@ pub fn close_group<S: Store<V>, V: Value>(
     kind: GroupKind,
     level: u8,
 ) -> Result<(), EngineFault>
-    ensures answer {
-        λ r. ⌜ r ≡ answerOf tt (now (nesting .entry)) (causeOf (V·Value .ops) (closes kind level)
-            (tableOf (S·Store .model (now (store .entry))) (V·Value .meaning (now (pool .entry))) (now (nesting .entry)) (stackOf (now (saves .entry))) (stackOf (now (pending .entry))))) ⌝
-    }
-    ensures table {
-        λ _. ⌜ tableOf (S·Store .model (now (store .exit))) (V·Value .meaning (now (pool .exit))) (now (nesting .exit)) (stackOf (now (saves .exit))) (stackOf (now (pending .exit)))
-            ≡ tried (V·Value .ops) (closes kind level)
-                (tableOf (S·Store .model (now (store .entry))) (V·Value .meaning (now (pool .entry))) (now (nesting .entry)) (stackOf (now (saves .entry))) (stackOf (now (pending .entry)))) ⌝
-    }
-    ensures traced {
-        λ _. ⌜ outOf (now (writer .exit)) (now (out .exit))
-            ≡ told (outOf (now (writer .entry)) (now (out .entry))) (linesOf (V·Value .ops) (closes kind level)
-                (tableOf (S·Store .model (now (store .entry))) (V·Value .meaning (now (pool .entry))) (now (nesting .entry)) (stackOf (now (saves .entry))) (stackOf (now (pending .entry))))) ⌝
-    }
+    ensures answer { λ r. ⌜ r ≡ answerOf tt (now (nesting .entry)) (causeOf (V·Value .ops) (closes kind level)
+        (tableOf (S·Store .model (now (store .entry))) (V·Value .meaning (now (pool .entry))) (now (nesting .entry)) (stackOf (now (saves .entry))) (stackOf (now (pending .entry))))) ⌝ }
+    ensures table { λ _. ⌜ tableOf (S·Store .model (now (store .exit))) (V·Value .meaning (now (pool .exit))) (now (nesting .exit)) (stackOf (now (saves .exit))) (stackOf (now (pending .exit)))
+        ≡ tried (V·Value .ops) (closes kind level)
+        (tableOf (S·Store .model (now (store .entry))) (V·Value .meaning (now (pool .entry))) (now (nesting .entry)) (stackOf (now (saves .entry))) (stackOf (now (pending .entry)))) ⌝ }
+    ensures traced { λ _. ⌜ outOf (now (writer .exit)) (now (out .exit))
+        ≡ told (outOf (now (writer .entry)) (now (out .entry))) (linesOf (V·Value .ops) (closes kind level)
+        (tableOf (S·Store .model (now (store .entry))) (V·Value .meaning (now (pool .entry))) (now (nesting .entry)) (stackOf (now (saves .entry))) (stackOf (now (pending .entry))))) ⌝ }
 {
     if !nesting.is_at(kind, level) {
-        return Err(EngineFault { cause: Cause::Call(Refusal::OtherGroup), nesting: *nesting });
+        return Err(EngineFault {
+            cause: Cause::Call(Refusal::OtherGroup),
+            nesting: *nesting,
+        });
     }
     if pending.room() < saves.held_in_group() {
-        return Err(EngineFault { cause: Cause::Call(Refusal::NoWords), nesting: *nesting });
+        return Err(EngineFault {
+            cause: Cause::Call(Refusal::NoWords),
+            nesting: *nesting,
+        });
     }
     pop_group(store, pool, saves, nesting, pending, writer, out, true);
     Ok(())
@@ -130,16 +127,12 @@ pub fn unwind<S: Store<V>, V: Value>(
     level: u8,
 ) -> u8
     ensures answer { λ r. ⌜ r ≡ unwoundTo level (now (nesting .entry) .level) ⌝ }
-    ensures table {
-        λ _. ⌜ tableOf (S·Store .model (now (store .exit))) (V·Value .meaning (now (pool .exit))) (now (nesting .exit)) (stackOf (now (saves .exit))) (stackOf (now (pending .exit)))
-            ≡ after (V·Value .ops) (replicate (unwoundTo level (now (nesting .entry) .level)) drops)
-                (tableOf (S·Store .model (now (store .entry))) (V·Value .meaning (now (pool .entry))) (now (nesting .entry)) (stackOf (now (saves .entry))) (stackOf (now (pending .entry)))) ⌝
-    }
-    ensures traced {
-        λ _. ⌜ outOf (now (writer .exit)) (now (out .exit))
-            ≡ told (outOf (now (writer .entry)) (now (out .entry))) (allLines (V·Value .ops) (replicate (unwoundTo level (now (nesting .entry) .level)) drops)
-                (tableOf (S·Store .model (now (store .entry))) (V·Value .meaning (now (pool .entry))) (now (nesting .entry)) (stackOf (now (saves .entry))) (stackOf (now (pending .entry))))) ⌝
-    }
+    ensures table { λ _. ⌜ tableOf (S·Store .model (now (store .exit))) (V·Value .meaning (now (pool .exit))) (now (nesting .exit)) (stackOf (now (saves .exit))) (stackOf (now (pending .exit)))
+        ≡ after (V·Value .ops) (replicate (unwoundTo level (now (nesting .entry) .level)) drops)
+        (tableOf (S·Store .model (now (store .entry))) (V·Value .meaning (now (pool .entry))) (now (nesting .entry)) (stackOf (now (saves .entry))) (stackOf (now (pending .entry)))) ⌝ }
+    ensures traced { λ _. ⌜ outOf (now (writer .exit)) (now (out .exit))
+        ≡ told (outOf (now (writer .entry)) (now (out .entry))) (allLines (V·Value .ops) (replicate (unwoundTo level (now (nesting .entry) .level)) drops)
+        (tableOf (S·Store .model (now (store .entry))) (V·Value .meaning (now (pool .entry))) (now (nesting .entry)) (stackOf (now (saves .entry))) (stackOf (now (pending .entry))))) ⌝ }
 {
     let from = nesting.level;
     while nesting.level > 1 && nesting.level >= level {

@@ -36,7 +36,10 @@ pub impl From<InGroup> for EngineFault as EngineFromStore {
     ghost converts = { λ a r. r ≡ faultAt (Store (a .fault)) (a .nesting) };
 
     fn from(a: InGroup) -> EngineFault {
-        EngineFault { cause: Cause::Store(a.fault), nesting: a.nesting }
+        EngineFault {
+            cause: Cause::Store(a.fault),
+            nesting: a.nesting,
+        }
     }
 }
 

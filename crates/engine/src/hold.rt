@@ -17,23 +17,29 @@ use tokens::refusal::Refusal;
 use values::value::Value;
 
 /// Holds a token back until the current group closes; outside all groups it does nothing.
-pub fn save_for_after<V: Value>(saves: &mut SaveStack<V>, nesting: Nesting, code: u16) -> Result<(), EngineFault>
-    ensures answer {
-        λ r. ⌜ ((s : StoreModel V) (m : V·Value .Meaning) (q : StackModel ℕ) → r ≡ answerOf tt nesting (causeOf (V·Value .ops) (holds code) (tableOf s m nesting (stackOf (now (saves .entry))) q))) ⌝
-    }
-    ensures table {
-        λ _. ⌜ ((s : StoreModel V) (m : V·Value .Meaning) (q : StackModel ℕ) → tableOf s m nesting (stackOf (now (saves .exit))) q
-            ≡ tried (V·Value .ops) (holds code) (tableOf s m nesting (stackOf (now (saves .entry))) q)) ⌝
-    }
+pub fn save_for_after<V: Value>(
+    saves: &mut SaveStack<V>,
+    nesting: Nesting,
+    code: u16,
+) -> Result<(), EngineFault>
+    ensures answer { λ r. ⌜ ((s : StoreModel V) (m : V·Value .Meaning) (q : StackModel ℕ) → r ≡ answerOf tt nesting (causeOf (V·Value .ops) (holds code) (tableOf s m nesting (stackOf (now (saves .entry))) q))) ⌝ }
+    ensures table { λ _. ⌜ ((s : StoreModel V) (m : V·Value .Meaning) (q : StackModel ℕ) → tableOf s m nesting (stackOf (now (saves .exit))) q
+        ≡ tried (V·Value .ops) (holds code) (tableOf s m nesting (stackOf (now (saves .entry))) q)) ⌝ }
 {
     if !is_code(code) {
-        return Err(EngineFault { cause: Cause::Call(Refusal::OutOfBounds), nesting });
+        return Err(EngineFault {
+            cause: Cause::Call(Refusal::OutOfBounds),
+            nesting,
+        });
     }
     if nesting.level <= 1 {
         return Ok(());
     }
     if saves.is_full() {
-        return Err(EngineFault { cause: Cause::Call(Refusal::NoEntry), nesting });
+        return Err(EngineFault {
+            cause: Cause::Call(Refusal::NoEntry),
+            nesting,
+        });
     }
     saves.push(Entry::Held(code));
     Ok(())

@@ -18,7 +18,10 @@ impl Nesting {
     pub fn new() -> Nesting
         ensures { λ r. ⌜ r ≡ bottom ⌝ }
     {
-        Nesting { level: 1, group: None }
+        Nesting {
+            level: 1,
+            group: None,
+        }
     }
 
     /// Whether the current group is of the kind, with the level inside it.

@@ -23,26 +23,20 @@ pub fn restore<S: Store<V>, V: Value>(
     place: u32,
     saved: Cell<V>,
 )
-    ensures cells {
-        λ _. ⌜ S·Store .model (now (store .exit))
-            ≡ cond (eqb (S·Store .model (now (store .entry)) .cells place .level) 1) (S·Store .model (now (store .entry)))
-                (writes (V·Value .ops .isZero) (S·Store .model (now (store .entry))) place saved) ⌝
-    }
-    ensures uses {
-        λ _. ⌜ V·Value .meaning (now (pool .exit))
-            ≡ cond (ltb place (S·Store .model (now (store .entry)) .reach))
-                (V·Value .ops .dropped (cond (eqb (S·Store .model (now (store .entry)) .cells place .level) 1) (saved .value) (S·Store .model (now (store .entry)) .cells place .value)) (V·Value .meaning (now (pool .entry))))
-                (V·Value .meaning (now (pool .entry))) ⌝
-    }
-    ensures traced {
-        λ _. ⌜ outOf (now (writer .exit)) (now (out .exit))
-            ≡ told (outOf (now (writer .entry)) (now (out .entry)))
-                (cond (ltb place (S·Store .model (now (store .entry)) .reach))
-                    (cond (eqb (S·Store .model (now (store .entry)) .cells place .level) 1)
-                        (retainingLine (V·Value .ops .shown (S·Store .model (now (store .entry)) .cells place .value) (V·Value .meaning (now (pool .exit))) place))
-                        (restoringLine (V·Value .ops .shown (saved .value) (V·Value .meaning (now (pool .exit))) place)) ∷ [])
-                    []) ⌝
-    }
+    ensures cells { λ _. ⌜ S·Store .model (now (store .exit))
+        ≡ cond (eqb (S·Store .model (now (store .entry)) .cells place .level) 1) (S·Store .model (now (store .entry)))
+        (writes (V·Value .ops .isZero) (S·Store .model (now (store .entry))) place saved) ⌝ }
+    ensures uses { λ _. ⌜ V·Value .meaning (now (pool .exit))
+        ≡ cond (ltb place (S·Store .model (now (store .entry)) .reach))
+        (V·Value .ops .dropped (cond (eqb (S·Store .model (now (store .entry)) .cells place .level) 1) (saved .value) (S·Store .model (now (store .entry)) .cells place .value)) (V·Value .meaning (now (pool .entry))))
+        (V·Value .meaning (now (pool .entry))) ⌝ }
+    ensures traced { λ _. ⌜ outOf (now (writer .exit)) (now (out .exit))
+        ≡ told (outOf (now (writer .entry)) (now (out .entry)))
+        (cond (ltb place (S·Store .model (now (store .entry)) .reach))
+        (cond (eqb (S·Store .model (now (store .entry)) .cells place .level) 1)
+        (retainingLine (V·Value .ops .shown (S·Store .model (now (store .entry)) .cells place .value) (V·Value .meaning (now (pool .exit))) place))
+        (restoringLine (V·Value .ops .shown (saved .value) (V·Value .meaning (now (pool .exit))) place)) ∷ [])
+        []) ⌝ }
 {
     let Some(present) = store.cell(place) else {
         return;

@@ -55,7 +55,6 @@ pub record Spans {V M : Type 0} (history : List (Moment V M)) (opening : Moment 
   pub ends : closing .what ≡ end
 
 module _ {V M : Type 0} (k : Ops V M) where
-
   -- what a call counts as where it is carried out
   abbrev pub event : Act V → Table V M → Event
   event (opens g) t = begin

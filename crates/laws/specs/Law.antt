@@ -25,7 +25,6 @@ entries k b (Held c ∷ es) = entries k b es
 entries k b (Boundary g ∷ es) = entries k b es
 
 module _ {V M : Type 0} (k : Ops V M) where
-
   -- what a register reads as
   abbrev pub reads : Table V M → ℕ → Reading
   reads t p = k .reads (t .store .cells p .value) (t .pool) p

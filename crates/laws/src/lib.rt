@@ -16,9 +16,7 @@ pub fn scopes_and_counts<S: Store<V>, V: Value>(
     nesting: Nesting,
     pending: &Pending,
 ) -> u8
-    ensures {
-        λ _. ⌜ Law (V·Value .ops) (tableOf (S·Store .model (now (store .entry))) (V·Value .meaning (now (pool .entry))) nesting (stackOf (now (saves .entry))) (stackOf (now (pending .entry)))) ⌝
-    }
+    ensures { λ _. ⌜ Law (V·Value .ops) (tableOf (S·Store .model (now (store .entry))) (V·Value .meaning (now (pool .entry))) nesting (stackOf (now (saves .entry))) (stackOf (now (pending .entry)))) ⌝ }
 {
     0
 }

@@ -22,15 +22,11 @@ pub fn assign<S: Store<V>, V: Value>(
     place: u32,
     value: V,
 ) -> Result<(), EngineFault>
-    ensures answer {
-        λ r. ⌜ r ≡ answerOf tt (now (state .entry) .nesting) (causeOf (V·Value .ops) (sets false place (given value))
-            (tableOf (S·Store .model (now (store .entry))) (V·Value .meaning (now (pool .entry))) (now (state .entry) .nesting) (stackOf (now (saves .entry))) (stackOf (now (state .entry) .pending)))) ⌝
-    }
-    ensures table {
-        λ r. ⌜ tableOf (S·Store .model (now (store .exit))) (V·Value .meaning (now (pool .exit))) (now (state .entry) .nesting) (stackOf (now (saves .exit))) (stackOf (now (state .entry) .pending))
-            ≡ tried (V·Value .ops) (sets false place (given value))
-                (tableOf (S·Store .model (now (store .entry))) (V·Value .meaning (now (pool .entry))) (now (state .entry) .nesting) (stackOf (now (saves .entry))) (stackOf (now (state .entry) .pending))) ⌝
-    }
+    ensures answer { λ r. ⌜ r ≡ answerOf tt (now (state .entry) .nesting) (causeOf (V·Value .ops) (sets false place (given value))
+        (tableOf (S·Store .model (now (store .entry))) (V·Value .meaning (now (pool .entry))) (now (state .entry) .nesting) (stackOf (now (saves .entry))) (stackOf (now (state .entry) .pending)))) ⌝ }
+    ensures table { λ r. ⌜ tableOf (S·Store .model (now (store .exit))) (V·Value .meaning (now (pool .exit))) (now (state .entry) .nesting) (stackOf (now (saves .exit))) (stackOf (now (state .entry) .pending))
+        ≡ tried (V·Value .ops) (sets false place (given value))
+        (tableOf (S·Store .model (now (store .entry))) (V·Value .meaning (now (pool .entry))) (now (state .entry) .nesting) (stackOf (now (saves .entry))) (stackOf (now (state .entry) .pending))) ⌝ }
 {
     engine::assign::assign(store, pool, saves, state.nesting, false, place, value)
 }
@@ -44,15 +40,11 @@ pub fn assign_globally<S: Store<V>, V: Value>(
     place: u32,
     value: V,
 ) -> Result<(), EngineFault>
-    ensures answer {
-        λ r. ⌜ r ≡ answerOf tt (now (state .entry) .nesting) (causeOf (V·Value .ops) (sets true place (given value))
-            (tableOf (S·Store .model (now (store .entry))) (V·Value .meaning (now (pool .entry))) (now (state .entry) .nesting) (stackOf (now (saves .entry))) (stackOf (now (state .entry) .pending)))) ⌝
-    }
-    ensures table {
-        λ r. ⌜ tableOf (S·Store .model (now (store .exit))) (V·Value .meaning (now (pool .exit))) (now (state .entry) .nesting) (stackOf (now (saves .exit))) (stackOf (now (state .entry) .pending))
-            ≡ tried (V·Value .ops) (sets true place (given value))
-                (tableOf (S·Store .model (now (store .entry))) (V·Value .meaning (now (pool .entry))) (now (state .entry) .nesting) (stackOf (now (saves .entry))) (stackOf (now (state .entry) .pending))) ⌝
-    }
+    ensures answer { λ r. ⌜ r ≡ answerOf tt (now (state .entry) .nesting) (causeOf (V·Value .ops) (sets true place (given value))
+        (tableOf (S·Store .model (now (store .entry))) (V·Value .meaning (now (pool .entry))) (now (state .entry) .nesting) (stackOf (now (saves .entry))) (stackOf (now (state .entry) .pending)))) ⌝ }
+    ensures table { λ r. ⌜ tableOf (S·Store .model (now (store .exit))) (V·Value .meaning (now (pool .exit))) (now (state .entry) .nesting) (stackOf (now (saves .exit))) (stackOf (now (state .entry) .pending))
+        ≡ tried (V·Value .ops) (sets true place (given value))
+        (tableOf (S·Store .model (now (store .entry))) (V·Value .meaning (now (pool .entry))) (now (state .entry) .nesting) (stackOf (now (saves .entry))) (stackOf (now (state .entry) .pending))) ⌝ }
 {
     engine::assign::assign(store, pool, saves, state.nesting, true, place, value)
 }
@@ -66,15 +58,11 @@ pub fn assign_list<S: Store<V>, V: Value>(
     place: u32,
     list: &[u16],
 ) -> Result<(), EngineFault>
-    ensures answer {
-        λ r. ⌜ ((b : ℕ) → r ≡ answerOf tt (now (state .entry) .nesting) (causeOf (V·Value .ops) (sets false place (fresh (now (list .entry)) b))
-            (tableOf (S·Store .model (now (store .entry))) (V·Value .meaning (now (pool .entry))) (now (state .entry) .nesting) (stackOf (now (saves .entry))) (stackOf (now (state .entry) .pending))))) ⌝
-    }
-    ensures table {
-        λ r. ⌜ ((b : ℕ) × (isOk r ≡ true → V·Value .ops .there (V·Value .meaning (now (pool .entry))) b ≡ false) × (tableOf (S·Store .model (now (store .exit))) (V·Value .meaning (now (pool .exit))) (now (state .entry) .nesting) (stackOf (now (saves .exit))) (stackOf (now (state .entry) .pending))
-            ≡ tried (V·Value .ops) (sets false place (fresh (now (list .entry)) b))
-                (tableOf (S·Store .model (now (store .entry))) (V·Value .meaning (now (pool .entry))) (now (state .entry) .nesting) (stackOf (now (saves .entry))) (stackOf (now (state .entry) .pending))))) ⌝
-    }
+    ensures answer { λ r. ⌜ ((b : ℕ) → r ≡ answerOf tt (now (state .entry) .nesting) (causeOf (V·Value .ops) (sets false place (fresh (now (list .entry)) b))
+        (tableOf (S·Store .model (now (store .entry))) (V·Value .meaning (now (pool .entry))) (now (state .entry) .nesting) (stackOf (now (saves .entry))) (stackOf (now (state .entry) .pending))))) ⌝ }
+    ensures table { λ r. ⌜ ((b : ℕ) × (isOk r ≡ true → V·Value .ops .there (V·Value .meaning (now (pool .entry))) b ≡ false) × (tableOf (S·Store .model (now (store .exit))) (V·Value .meaning (now (pool .exit))) (now (state .entry) .nesting) (stackOf (now (saves .exit))) (stackOf (now (state .entry) .pending))
+        ≡ tried (V·Value .ops) (sets false place (fresh (now (list .entry)) b))
+        (tableOf (S·Store .model (now (store .entry))) (V·Value .meaning (now (pool .entry))) (now (state .entry) .nesting) (stackOf (now (saves .entry))) (stackOf (now (state .entry) .pending))))) ⌝ }
 {
     engine::assign::assign_list(store, pool, saves, state.nesting, false, place, list)
 }
@@ -88,15 +76,11 @@ pub fn assign_list_globally<S: Store<V>, V: Value>(
     place: u32,
     list: &[u16],
 ) -> Result<(), EngineFault>
-    ensures answer {
-        λ r. ⌜ ((b : ℕ) → r ≡ answerOf tt (now (state .entry) .nesting) (causeOf (V·Value .ops) (sets true place (fresh (now (list .entry)) b))
-            (tableOf (S·Store .model (now (store .entry))) (V·Value .meaning (now (pool .entry))) (now (state .entry) .nesting) (stackOf (now (saves .entry))) (stackOf (now (state .entry) .pending))))) ⌝
-    }
-    ensures table {
-        λ r. ⌜ ((b : ℕ) × (isOk r ≡ true → V·Value .ops .there (V·Value .meaning (now (pool .entry))) b ≡ false) × (tableOf (S·Store .model (now (store .exit))) (V·Value .meaning (now (pool .exit))) (now (state .entry) .nesting) (stackOf (now (saves .exit))) (stackOf (now (state .entry) .pending))
-            ≡ tried (V·Value .ops) (sets true place (fresh (now (list .entry)) b))
-                (tableOf (S·Store .model (now (store .entry))) (V·Value .meaning (now (pool .entry))) (now (state .entry) .nesting) (stackOf (now (saves .entry))) (stackOf (now (state .entry) .pending))))) ⌝
-    }
+    ensures answer { λ r. ⌜ ((b : ℕ) → r ≡ answerOf tt (now (state .entry) .nesting) (causeOf (V·Value .ops) (sets true place (fresh (now (list .entry)) b))
+        (tableOf (S·Store .model (now (store .entry))) (V·Value .meaning (now (pool .entry))) (now (state .entry) .nesting) (stackOf (now (saves .entry))) (stackOf (now (state .entry) .pending))))) ⌝ }
+    ensures table { λ r. ⌜ ((b : ℕ) × (isOk r ≡ true → V·Value .ops .there (V·Value .meaning (now (pool .entry))) b ≡ false) × (tableOf (S·Store .model (now (store .exit))) (V·Value .meaning (now (pool .exit))) (now (state .entry) .nesting) (stackOf (now (saves .exit))) (stackOf (now (state .entry) .pending))
+        ≡ tried (V·Value .ops) (sets true place (fresh (now (list .entry)) b))
+        (tableOf (S·Store .model (now (store .entry))) (V·Value .meaning (now (pool .entry))) (now (state .entry) .nesting) (stackOf (now (saves .entry))) (stackOf (now (state .entry) .pending))))) ⌝ }
 {
     engine::assign::assign_list(store, pool, saves, state.nesting, true, place, list)
 }

@@ -25,22 +25,28 @@ use tokens::group::GroupKind;
 use values::value::Value;
 
 /// Opens a group of the kind at the line, and hands out its handle.
-pub fn open_group<V: Value>(saves: &mut SaveStack<V>, state: &mut State, out: &mut [u8], kind: GroupKind, line: u16) -> Result<GroupHandle, EngineFault>
-    ensures answer {
-        λ r. ⌜ ((s : StoreModel V) (m : V·Value .Meaning) → r ≡ openAnswer kind (now (state .entry) .nesting)
-            (causeOf (V·Value .ops) (opens (record { kind = kind; line = line })) (tableOf s m (now (state .entry) .nesting) (stackOf (now (saves .entry))) (stackOf (now (state .entry) .pending))))) ⌝
-    }
-    ensures table {
-        λ _. ⌜ ((s : StoreModel V) (m : V·Value .Meaning) → tableOf s m (now (state .exit) .nesting) (stackOf (now (saves .exit))) (stackOf (now (state .exit) .pending))
-            ≡ tried (V·Value .ops) (opens (record { kind = kind; line = line })) (tableOf s m (now (state .entry) .nesting) (stackOf (now (saves .entry))) (stackOf (now (state .entry) .pending)))) ⌝
-    }
-    ensures traced {
-        λ _. ⌜ ((s : StoreModel V) (m : V·Value .Meaning) → outOf (now (state .exit) .trace) (now (out .exit))
-            ≡ told (outOf (now (state .entry) .trace) (now (out .entry)))
-                (linesOf (V·Value .ops) (opens (record { kind = kind; line = line })) (tableOf s m (now (state .entry) .nesting) (stackOf (now (saves .entry))) (stackOf (now (state .entry) .pending))))) ⌝
-    }
+pub fn open_group<V: Value>(
+    saves: &mut SaveStack<V>,
+    state: &mut State,
+    out: &mut [u8],
+    kind: GroupKind,
+    line: u16,
+) -> Result<GroupHandle, EngineFault>
+    ensures answer { λ r. ⌜ ((s : StoreModel V) (m : V·Value .Meaning) → r ≡ openAnswer kind (now (state .entry) .nesting)
+        (causeOf (V·Value .ops) (opens (record { kind = kind; line = line })) (tableOf s m (now (state .entry) .nesting) (stackOf (now (saves .entry))) (stackOf (now (state .entry) .pending))))) ⌝ }
+    ensures table { λ _. ⌜ ((s : StoreModel V) (m : V·Value .Meaning) → tableOf s m (now (state .exit) .nesting) (stackOf (now (saves .exit))) (stackOf (now (state .exit) .pending))
+        ≡ tried (V·Value .ops) (opens (record { kind = kind; line = line })) (tableOf s m (now (state .entry) .nesting) (stackOf (now (saves .entry))) (stackOf (now (state .entry) .pending)))) ⌝ }
+    ensures traced { λ _. ⌜ ((s : StoreModel V) (m : V·Value .Meaning) → outOf (now (state .exit) .trace) (now (out .exit))
+        ≡ told (outOf (now (state .entry) .trace) (now (out .entry)))
+        (linesOf (V·Value .ops) (opens (record { kind = kind; line = line })) (tableOf s m (now (state .entry) .nesting) (stackOf (now (saves .entry))) (stackOf (now (state .entry) .pending))))) ⌝ }
 {
-    let level = open_group::open_group(saves, &mut state.nesting, &mut state.trace, out, Group { kind, line })?;
+    let level = open_group::open_group(
+        saves,
+        &mut state.nesting,
+        &mut state.trace,
+        out,
+        Group { kind, line },
+    )?;
     Ok(GroupHandle { kind, level })
 }
 
@@ -53,20 +59,14 @@ pub fn close_group<S: Store<V>, V: Value>(
     out: &mut [u8],
     handle: GroupHandle,
 ) -> Result<(), StillOpen>
-    ensures answer {
-        λ r. ⌜ r ≡ closeAnswer handle (now (state .entry) .nesting) (causeOf (V·Value .ops) (closes (handle .kind) (handle .level))
-            (tableOf (S·Store .model (now (store .entry))) (V·Value .meaning (now (pool .entry))) (now (state .entry) .nesting) (stackOf (now (saves .entry))) (stackOf (now (state .entry) .pending)))) ⌝
-    }
-    ensures table {
-        λ _. ⌜ tableOf (S·Store .model (now (store .exit))) (V·Value .meaning (now (pool .exit))) (now (state .exit) .nesting) (stackOf (now (saves .exit))) (stackOf (now (state .exit) .pending))
-            ≡ tried (V·Value .ops) (closes (handle .kind) (handle .level))
-                (tableOf (S·Store .model (now (store .entry))) (V·Value .meaning (now (pool .entry))) (now (state .entry) .nesting) (stackOf (now (saves .entry))) (stackOf (now (state .entry) .pending))) ⌝
-    }
-    ensures traced {
-        λ _. ⌜ outOf (now (state .exit) .trace) (now (out .exit))
-            ≡ told (outOf (now (state .entry) .trace) (now (out .entry))) (linesOf (V·Value .ops) (closes (handle .kind) (handle .level))
-                (tableOf (S·Store .model (now (store .entry))) (V·Value .meaning (now (pool .entry))) (now (state .entry) .nesting) (stackOf (now (saves .entry))) (stackOf (now (state .entry) .pending)))) ⌝
-    }
+    ensures answer { λ r. ⌜ r ≡ closeAnswer handle (now (state .entry) .nesting) (causeOf (V·Value .ops) (closes (handle .kind) (handle .level))
+        (tableOf (S·Store .model (now (store .entry))) (V·Value .meaning (now (pool .entry))) (now (state .entry) .nesting) (stackOf (now (saves .entry))) (stackOf (now (state .entry) .pending)))) ⌝ }
+    ensures table { λ _. ⌜ tableOf (S·Store .model (now (store .exit))) (V·Value .meaning (now (pool .exit))) (now (state .exit) .nesting) (stackOf (now (saves .exit))) (stackOf (now (state .exit) .pending))
+        ≡ tried (V·Value .ops) (closes (handle .kind) (handle .level))
+        (tableOf (S·Store .model (now (store .entry))) (V·Value .meaning (now (pool .entry))) (now (state .entry) .nesting) (stackOf (now (saves .entry))) (stackOf (now (state .entry) .pending))) ⌝ }
+    ensures traced { λ _. ⌜ outOf (now (state .exit) .trace) (now (out .exit))
+        ≡ told (outOf (now (state .entry) .trace) (now (out .entry))) (linesOf (V·Value .ops) (closes (handle .kind) (handle .level))
+        (tableOf (S·Store .model (now (store .entry))) (V·Value .meaning (now (pool .entry))) (now (state .entry) .nesting) (stackOf (now (saves .entry))) (stackOf (now (state .entry) .pending)))) ⌝ }
 {
     let GroupHandle { kind, level } = handle;
     match close::close_group(
@@ -81,7 +81,10 @@ pub fn close_group<S: Store<V>, V: Value>(
         level,
     ) {
         Ok(()) => Ok(()),
-        Err(fault) => Err(StillOpen { fault, handle: GroupHandle { kind, level } }),
+        Err(fault) => Err(StillOpen {
+            fault,
+            handle: GroupHandle { kind, level },
+        }),
     }
 }
 
@@ -95,31 +98,36 @@ pub fn unwind<S: Store<V>, V: Value>(
     handle: GroupHandle,
 ) -> u8
     ensures answer { λ r. ⌜ r ≡ unwoundTo (handle .level) (now (state .entry) .nesting .level) ⌝ }
-    ensures table {
-        λ _. ⌜ tableOf (S·Store .model (now (store .exit))) (V·Value .meaning (now (pool .exit))) (now (state .exit) .nesting) (stackOf (now (saves .exit))) (stackOf (now (state .exit) .pending))
-            ≡ after (V·Value .ops) (replicate (unwoundTo (handle .level) (now (state .entry) .nesting .level)) drops)
-                (tableOf (S·Store .model (now (store .entry))) (V·Value .meaning (now (pool .entry))) (now (state .entry) .nesting) (stackOf (now (saves .entry))) (stackOf (now (state .entry) .pending))) ⌝
-    }
-    ensures traced {
-        λ _. ⌜ outOf (now (state .exit) .trace) (now (out .exit))
-            ≡ told (outOf (now (state .entry) .trace) (now (out .entry))) (allLines (V·Value .ops) (replicate (unwoundTo (handle .level) (now (state .entry) .nesting .level)) drops)
-                (tableOf (S·Store .model (now (store .entry))) (V·Value .meaning (now (pool .entry))) (now (state .entry) .nesting) (stackOf (now (saves .entry))) (stackOf (now (state .entry) .pending)))) ⌝
-    }
+    ensures table { λ _. ⌜ tableOf (S·Store .model (now (store .exit))) (V·Value .meaning (now (pool .exit))) (now (state .exit) .nesting) (stackOf (now (saves .exit))) (stackOf (now (state .exit) .pending))
+        ≡ after (V·Value .ops) (replicate (unwoundTo (handle .level) (now (state .entry) .nesting .level)) drops)
+        (tableOf (S·Store .model (now (store .entry))) (V·Value .meaning (now (pool .entry))) (now (state .entry) .nesting) (stackOf (now (saves .entry))) (stackOf (now (state .entry) .pending))) ⌝ }
+    ensures traced { λ _. ⌜ outOf (now (state .exit) .trace) (now (out .exit))
+        ≡ told (outOf (now (state .entry) .trace) (now (out .entry))) (allLines (V·Value .ops) (replicate (unwoundTo (handle .level) (now (state .entry) .nesting .level)) drops)
+        (tableOf (S·Store .model (now (store .entry))) (V·Value .meaning (now (pool .entry))) (now (state .entry) .nesting) (stackOf (now (saves .entry))) (stackOf (now (state .entry) .pending)))) ⌝ }
 {
     let GroupHandle { kind: _, level } = handle;
-    close::unwind(store, pool, saves, &mut state.nesting, &mut state.pending, &mut state.trace, out, level)
+    close::unwind(
+        store,
+        pool,
+        saves,
+        &mut state.nesting,
+        &mut state.pending,
+        &mut state.trace,
+        out,
+        level,
+    )
 }
 
 /// Holds a token back until the current group closes; outside all groups it does nothing.
-pub fn save_for_after<V: Value>(saves: &mut SaveStack<V>, state: &State, code: u16) -> Result<(), EngineFault>
-    ensures answer {
-        λ r. ⌜ ((s : StoreModel V) (m : V·Value .Meaning) → r ≡ answerOf tt (now (state .entry) .nesting)
-            (causeOf (V·Value .ops) (holds code) (tableOf s m (now (state .entry) .nesting) (stackOf (now (saves .entry))) (stackOf (now (state .entry) .pending))))) ⌝
-    }
-    ensures table {
-        λ _. ⌜ ((s : StoreModel V) (m : V·Value .Meaning) → tableOf s m (now (state .entry) .nesting) (stackOf (now (saves .exit))) (stackOf (now (state .entry) .pending))
-            ≡ tried (V·Value .ops) (holds code) (tableOf s m (now (state .entry) .nesting) (stackOf (now (saves .entry))) (stackOf (now (state .entry) .pending)))) ⌝
-    }
+pub fn save_for_after<V: Value>(
+    saves: &mut SaveStack<V>,
+    state: &State,
+    code: u16,
+) -> Result<(), EngineFault>
+    ensures answer { λ r. ⌜ ((s : StoreModel V) (m : V·Value .Meaning) → r ≡ answerOf tt (now (state .entry) .nesting)
+        (causeOf (V·Value .ops) (holds code) (tableOf s m (now (state .entry) .nesting) (stackOf (now (saves .entry))) (stackOf (now (state .entry) .pending))))) ⌝ }
+    ensures table { λ _. ⌜ ((s : StoreModel V) (m : V·Value .Meaning) → tableOf s m (now (state .entry) .nesting) (stackOf (now (saves .exit))) (stackOf (now (state .entry) .pending))
+        ≡ tried (V·Value .ops) (holds code) (tableOf s m (now (state .entry) .nesting) (stackOf (now (saves .entry))) (stackOf (now (state .entry) .pending)))) ⌝ }
 {
     hold::save_for_after(saves, state.nesting, code)
 }

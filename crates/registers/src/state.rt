@@ -23,6 +23,10 @@ impl<'a> State<'a> {
     pub fn new(words: &'a mut [u16]) -> Self
         ensures { λ r. ⌜ (r .nesting ≡ bottom) × (stackOf (r .pending) ≡ empty (length (now (words .entry)))) × (r .trace ≡ fresh) ⌝ }
     {
-        State { nesting: Nesting::new(), pending: Stack::new(words), trace: Writer::new() }
+        State {
+            nesting: Nesting::new(),
+            pending: Stack::new(words),
+            trace: Writer::new(),
+        }
     }
 }

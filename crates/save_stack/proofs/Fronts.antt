@@ -33,11 +33,11 @@ module _ {E : Type 0} (xs : List E) (n : ℕ) (e : E) (h : n < length xs) where
 
   pub push-after : rowOf (n + 1) (set xs n e) ≡ pushed (rowOf n xs) e
   push-after =
-    let long = length-set xs n e in
-    let h2 : n < length (set xs n e) = omega arith in
-    let held = front-more (set xs n e) n e h2 ∙ ap (λ y. y ∷ reverse (take n (set xs n e))) (getD-set-same xs n e e h) ∙ ap (λ (r : List E). e ∷ reverse r) (take-set xs n e) in
-    let room : length (set xs n e) - (n + 1) ≡ (length xs - n) - 1 = omega arith in
-    rw roomy (λ i. record { held = held i; room = room i })
+      let long = length-set xs n e in
+      let h2 : n < length (set xs n e) = omega arith in
+      let held = front-more (set xs n e) n e h2 ∙ ap (λ y. y ∷ reverse (take n (set xs n e))) (getD-set-same xs n e e h) ∙ ap (λ (r : List E). e ∷ reverse r) (take-set xs n e) in
+      let room : length (set xs n e) - (n + 1) ≡ (length xs - n) - 1 = omega arith in
+      rw roomy (λ i. record { held = held i; room = room i })
 
 module _ {E : Type 0} (xs : List E) (n u : ℕ) (used : u ≡ min n (length xs)) where
   -- the stack by the part of the row that is there
@@ -50,17 +50,17 @@ module _ {E : Type 0} (xs : List E) (n u : ℕ) (used : u ≡ min n (length xs))
 module _ {E : Type 0} (xs : List E) (n u : ℕ) (e : E) (used : u ≡ min n (length xs)) where
   split : (u ≡ 0 → ⊥) → reverse (take n xs) ≡ getD xs (u - 1) e ∷ reverse (take (u - 1) xs)
   split some =
-    let h : u - 1 < length xs = omega arith in
-    let more : u ≡ (u - 1) + 1 = omega arith in
-    held-used xs n u used ∙ ap (λ k. reverse (take k xs)) more ∙ front-more xs (u - 1) e h
+      let h : u - 1 < length xs = omega arith in
+      let more : u ≡ (u - 1) + 1 = omega arith in
+      held-used xs n u used ∙ ap (λ k. reverse (take k xs)) more ∙ front-more xs (u - 1) e h
 
   pub pop-some : (u ≡ 0 → ⊥) → Some (getD xs (u - 1) e) ≡ newest (reverse (take n xs))
   pop-some some = sym (ap newest (split some))
 
   pub pop-after : (u ≡ 0 → ⊥) → rowOf (u - 1) xs ≡ under (rowOf n xs) (rowOf n xs .held)
   pop-after some =
-    let room : length xs - (u - 1) ≡ (length xs - n) + 1 = omega arith in
-    ap (λ r. record { held = reverse (take (u - 1) xs); room = r }) room ∙ ap (under (rowOf n xs)) (sym (split some))
+      let room : length xs - (u - 1) ≡ (length xs - n) + 1 = omega arith in
+      ap (λ r. record { held = reverse (take (u - 1) xs); room = r }) room ∙ ap (under (rowOf n xs)) (sym (split some))
 
 -- tokens that are held below a part of the row that has none of a group's beginnings
 pub held-end : {V : Type 0} (xs : List (Entry V)) (u count all : ℕ) → u ≡ 0 → all ≡ count + heldIn (reverse (take u xs)) → count ≡ all

@@ -41,7 +41,10 @@ impl<'a, E: Copy> Stack<'a, E> {
         ensures { λ r. ⌜ stackOf r ≡ empty (min (length (now (entries .entry))) topEntries) ⌝ }
     {
         let used = entries.len().min(MAX_ENTRIES);
-        Stack { entries: &mut entries[0..used], top: 0 }
+        Stack {
+            entries: &mut entries[0..used],
+            top: 0,
+        }
     }
 
     /// How many more entries it takes.
@@ -88,11 +91,10 @@ impl<'a, E: Copy> Stack<'a, E> {
     }
 
     fn last(&self) -> Option<(E, usize)>
-        ensures {
-            λ r. ⌜ elim r [
-                Some p ↦ (Some (p .0) ≡ newest (stackOf (now (self .entry)) .held)) × (rowOf (p .1) (now (now (self .entry) .entries)) ≡ under (stackOf (now (self .entry))) (stackOf (now (self .entry)) .held))
-              | None ↦ stackOf (now (self .entry)) .held ≡ [] ] ⌝
-        }
+        ensures { λ r. ⌜ elim r [
+          | Some p ↦ (Some (p .0) ≡ newest (stackOf (now (self .entry)) .held)) × (rowOf (p .1) (now (now (self .entry) .entries)) ≡ under (stackOf (now (self .entry))) (stackOf (now (self .entry)) .held))
+          | None ↦ stackOf (now (self .entry)) .held ≡ []
+        ] ⌝ }
     {
         row::pop(self.entries, self.top)
     }

@@ -50,10 +50,11 @@ returns g c =
     let w = c .in-Some .ensures tt in
     let a = λ (q : StackModel ℕ). allowed (s .cells p) (tt {0}) n (firstOf (assignChecks k d gl (tableOf s m n e q) p)) (c .in-Continue-old .ensures tt m q) in
     let r = λ (b : ℕ) (q : StackModel ℕ) (u : Table (g .V .Denot) (g .V·Value .Meaning)) (new : chosen k (fresh ts b) m ≡ true) (is : u ≡ assigned k gl (tableOf s m n e q) p (fresh ts b)).
-        assign-done k gl (tableOf s m n e q) p (fresh ts b) n d (c .of-list-demand .ensures b) new (a q .2) is in
+    assign-done k gl (tableOf s m n e q) p (fresh ts b) n d (c .of-list-demand .ensures b) new (a q .2) is in
     let new : chosen k (fresh ts (w .at)) m ≡ true = ap not (w .absent) in
     let done = λ (q : StackModel ℕ). c .put-in .ensures (a q .0) q
-        ∙ remade k gl s m (g .V·Value .meaning (c .make-list .last .pool)) n e q p (w .at) ts (c .in-Some .value) (w .value) (w .pool) in
+    ∙ remade k gl s m (g .V·Value .meaning (c .make-list .last .pool)) n e q p (w .at) ts (c .in-Some .value) (w .value) (w .pool) in
     record {
       answer = λ b q. r (w .at) q _ new (done q) .0;
-      table = (w .at, λ _. w .absent, λ q. r (w .at) q _ new (done q) .1) }
+      table = (w .at, λ _. w .absent, λ q. r (w .at) q _ new (done q) .1);
+    }

@@ -32,8 +32,10 @@ loop-nesting-again g c =
     let e = c .pop-group .ensures .table in
     let n = count-turn k t u l h i e in
     let d = level-is k t u l h i e in
-    let f = level-falls k t u l h i e in
-    (omega arith, omega arith,
-     table-turn k t u l h i e ∙ v .inv .2,
-     ap (λ (o : Out). told o (allLines k (replicate (unwoundTo l (u .level)) drops) u)) (c .pop-group .ensures .traced)
-       ∙ lines-turn k t u l h i e (outOf (v .writer) (v .out)) ∙ v .inv .3)
+    let f = level-falls k t u l h i e in (
+      omega arith,
+      omega arith,
+      table-turn k t u l h i e ∙ v .inv .2,
+      ap (λ (o : Out). told o (allLines k (replicate (unwoundTo l (u .level)) drops) u)) (c .pop-group .ensures .traced)
+          ∙ lines-turn k t u l h i e (outOf (v .writer) (v .out)) ∙ v .inv .3,
+    )

@@ -13,9 +13,9 @@ abbrev pub Inv-loop-nesting : given.InvT-loop-nesting
 Inv-loop-nesting g l =
     (l .nesting .level ≤ l .from) × (unwoundTo (l .level) (l .from) + l .nesting .level ≡ unwoundTo (l .level) (l .nesting .level) + l .from)
     × (after (g .V·Value .ops) (replicate (unwoundTo (l .level) (l .nesting .level)) drops) (tableOf (g .S·Store .model (l .store)) (g .V·Value .meaning (l .pool)) (l .nesting) (stackOf (l .saves)) (stackOf (l .pending)))
-        ≡ after (g .V·Value .ops) (replicate (unwoundTo (l .level) (l .entry .nesting .level)) drops) (tableOf (g .S·Store .model (l .entry .store)) (g .V·Value .meaning (l .entry .pool)) (l .entry .nesting) (stackOf (l .entry .saves)) (stackOf (l .entry .pending))))
+    ≡ after (g .V·Value .ops) (replicate (unwoundTo (l .level) (l .entry .nesting .level)) drops) (tableOf (g .S·Store .model (l .entry .store)) (g .V·Value .meaning (l .entry .pool)) (l .entry .nesting) (stackOf (l .entry .saves)) (stackOf (l .entry .pending))))
     × (told (outOf (l .writer) (l .out)) (allLines (g .V·Value .ops) (replicate (unwoundTo (l .level) (l .nesting .level)) drops) (tableOf (g .S·Store .model (l .store)) (g .V·Value .meaning (l .pool)) (l .nesting) (stackOf (l .saves)) (stackOf (l .pending))))
-        ≡ told (outOf (l .entry .writer) (l .entry .out)) (allLines (g .V·Value .ops) (replicate (unwoundTo (l .level) (l .entry .nesting .level)) drops) (tableOf (g .S·Store .model (l .entry .store)) (g .V·Value .meaning (l .entry .pool)) (l .entry .nesting) (stackOf (l .entry .saves)) (stackOf (l .entry .pending)))))
+    ≡ told (outOf (l .entry .writer) (l .entry .out)) (allLines (g .V·Value .ops) (replicate (unwoundTo (l .level) (l .entry .nesting .level)) drops) (tableOf (g .S·Store .model (l .entry .store)) (g .V·Value .meaning (l .entry .pool)) (l .entry .nesting) (stackOf (l .entry .saves)) (stackOf (l .entry .pending)))))
 
 abbrev pub μ-loop-nesting : given.MeasureT-loop-nesting
 μ-loop-nesting g l = l .nesting .level

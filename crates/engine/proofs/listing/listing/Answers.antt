@@ -65,10 +65,11 @@ loop-place-again g c =
     let go : stands o (lineAt k s m q) ≡ true = ap (stands o) (sym e) ∙ sym (w .result) in
     let r = rest k s m p q f in
     let ls = linesFrom k s m (q + 1) (s .reach - (q + 1)) in
-    let v : outOf (c .listed .last .writer) (c .listed .last .out) ≡ wrote o (lineAt k s m q) = w .wrote ∙ ap (wrote o) e in
-    (omega arith,
-     ap (λ (z : Out). listedTo z ls) v ∙ to-stands o (lineAt k s m q) ls (linesFrom k s m p (s .reach - p)) r go ∙ c .loop-place .inv .1,
-     ap (λ (z : Out). allStand z ls) v ∙ all-stands o (lineAt k s m q) ls (linesFrom k s m p (s .reach - p)) r go ∙ c .loop-place .inv .2)
+    let v : outOf (c .listed .last .writer) (c .listed .last .out) ≡ wrote o (lineAt k s m q) = w .wrote ∙ ap (wrote o) e in (
+      omega arith,
+      ap (λ (z : Out). listedTo z ls) v ∙ to-stands o (lineAt k s m q) ls (linesFrom k s m p (s .reach - p)) r go ∙ c .loop-place .inv .1,
+      ap (λ (z : Out). allStand z ls) v ∙ all-stands o (lineAt k s m q) ls (linesFrom k s m p (s .reach - p)) r go ∙ c .loop-place .inv .2,
+    )
 
 pub returns : need.returns
 returns g c =

@@ -20,7 +20,8 @@ returns-in-Break-level g c =
     rw (x .1, x .2) (record {
       answer = λ s m. refused (n .level + 1) (handleOf (c .args .kind) (n .level + 1)) n (o s m) (e .answer s m q) .0;
       table = λ s m. e .table s m q;
-      traced = λ s m. e .traced s m q })
+      traced = λ s m. e .traced s m q;
+    })
 
 pub returns : need.returns
 returns g c =
@@ -28,8 +29,9 @@ returns g c =
     let q = stackOf (c .args .state .now .pending) in
     let e = c .in-Continue-level .ensures tt in
     let a = λ (s : StoreModel (g .V .Denot)) (m : g .V·Value .Meaning). allowed (n .level + 1) (handleOf (c .args .kind) (n .level + 1)) n
-        (causeOf (g .V·Value .ops) (opens (record { kind = c .args .kind; line = c .args .line })) (tableOf s m n (stackOf (c .args .saves .now)) q)) (e .answer s m q) in
+    (causeOf (g .V·Value .ops) (opens (record { kind = c .args .kind; line = c .args .line })) (tableOf s m n (stackOf (c .args .saves .now)) q)) (e .answer s m q) in
     record {
       answer = λ s m. ap (λ (l : ℕ). Ok (handleOf (c .args .kind) l)) (a s m .0) ∙ a s m .1;
       table = λ s m. e .table s m q;
-      traced = λ s m. e .traced s m q }
+      traced = λ s m. e .traced s m q;
+    }

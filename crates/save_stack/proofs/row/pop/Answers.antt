@@ -10,6 +10,7 @@ pub returns : need.returns
 returns g c =
     let xs = c .args .entries .now in
     let e = c .index-entries-used .result in
-    let s = c .if-used-eq0 .left in
-    (ap Some (c .index-entries-used .is) ∙ pop-some xs (c .args .top) (c .min-used .result) e (c .min-used .ensures) s,
-     pop-after xs (c .args .top) (c .min-used .result) e (c .min-used .ensures) s)
+    let s = c .if-used-eq0 .left in (
+      ap Some (c .index-entries-used .is) ∙ pop-some xs (c .args .top) (c .min-used .result) e (c .min-used .ensures) s,
+      pop-after xs (c .args .top) (c .min-used .result) e (c .min-used .ensures) s,
+    )
