@@ -7,11 +7,11 @@ use Prim.Native.Nat.{ℕ, zero, suc, _+_, _≤_, _<_}
 use native.Mathlib.Omega.{arith}
 use Rattle.values.specs.Ops.{Ops}
 use Rattle.engine.specs.Tables.{Table}
-use Rattle.laws.specs.Histories.{Event, begin, end, global, other, Moment, events, balanced}
+use Rattle.laws.specs.Histories.{Event, begin, end, global, other, Moment, events, balanced, Opened}
 use Rattle.laws.specs.Law.{reads}
 use Rattle.laws.proofs.Invariants.{Sound, promise}
 use Rattle.laws.proofs.Steps.{Does, Step}
-use Rattle.laws.proofs.Rows.{lastGlobal, Latest, row}
+use Rattle.laws.proofs.Rows.{lastGlobal, row}
 
 module _ {V M : Type 0} (k : Ops V M) where
   -- a row of moments, each a step from the one before
@@ -59,7 +59,7 @@ module _ {V M : Type 0} (k : Ops V M) where
       lowers-after (m .what) (events ms) t (m .table) n (ending (m .table) ms .level) (f .0 .does) (lowers ms (m .table) (f .1)) b
 
   -- a row that ends higher has a latest opening
-  pub latest : (t : Table V M) (ms : List (Moment V M)) → Follows t ms → t .level < ending t ms .level → Latest ms
+  pub latest : (t : Table V M) (ms : List (Moment V M)) → Follows t ms → t .level < ending t ms .level → Opened ms
   latest t ms f h = elim (row ms) [
     | inl x ↦ let a = lowers ms t f (x .0) (x .1) in let z : ⊥ = omega arith in elim z [ ]
     | inr x ↦ x

@@ -17,20 +17,8 @@ use Rattle.laws.specs.Law.{places, entries, reads, Closes-match, Groups-restor
 use Rattle.laws.proofs.Places.{places-none}
 use Rattle.laws.proofs.Invariants.{Within, Sound}
 use Rattle.laws.proofs.Steps.{Does, step}
-use Rattle.laws.proofs.Rows.{lastGlobal, last-none, last-some, Latest, regroup}
+use Rattle.laws.proofs.Rows.{lastGlobal, last-none, last-some}
 use Rattle.laws.proofs.Courses.{Follows, ending, join, split, ending-join, still-sound, latest, group-kept}
-
--- a close ends the latest opening before it
-spans : {V M : Type 0} (row earlier later : List (Moment V M)) (c : Moment V M) → row ≡ earlier ++ (c ∷ later) → c .what ≡ end → (x : Latest earlier) →
-    Spans row (x .opening) (x .inside) c
-spans {V} {M} row earlier later c e ec x = record {
-  before = x .before;
-  later = later;
-  parts = e ∙ ap (λ (ms : List (Moment V M)). ms ++ (c ∷ later)) (x .parts) ∙ regroup (x .before) (x .opening) (x .inside) c later;
-  begins = x .begins;
-  matches = x .matches;
-  ends = ec;
-}
 
 module _ {V M : Type 0} (k : Ops V M) (laws : Laws k) where
   -- from a table, a row of steps leads to another
@@ -124,8 +112,7 @@ module _ {V M : Type 0} (k : Ops V M) (laws : Laws k) where
         let d : Does k end v (c .table) = subst (λ (x : Event). Does k x v (c .table)) ec (f .1 .0 .does) in
         let deep : 1 < v .level = d .2 in
         let one : t .level ≡ 1 = n .bottom in
-        let x = latest k t earlier (f .0) (omega arith) in
-        (x .opening, (x .inside, spans (history k calls t) earlier later c e ec x))
+        latest k t earlier (f .0) (omega arith)
 
     counted-after : Counted k (afterCalls k calls t)
     counted-after =

@@ -7,7 +7,7 @@ use Prim.Native.Nat.{ℕ, zero, suc}
 use lib.Dec.{eqb}
 use borrow.Author.Tests.{eq-eqb}
 use Rattle.values.specs.Readings.{Reading}
-use Rattle.laws.specs.Histories.{Event, begin, end, global, other, Moment, events, balanced, untouched}
+use Rattle.laws.specs.Histories.{Event, begin, end, global, other, Moment, events, balanced, untouched, Opened}
 use Rattle.laws.proofs.Grants.{not-true, both}
 
 -- as the last global assignment of the place set it, or else r
@@ -36,19 +36,10 @@ last-some p (end ∷ xs) ys x r e = last-some p xs ys x r e
 last-some p (global q y ∷ xs) ys x r e = last-some p xs ys x (cond (eqb q p) y r) e
 last-some p (other ∷ xs) ys x r e = last-some p xs ys x r e
 
--- the latest opening of a row that no close of it ends
-pub record Latest {V M : Type 0} (ms : List (Moment V M)) : Type 0 where
-  pub before : List (Moment V M)
-  pub opening : Moment V M
-  pub inside : List (Moment V M)
-  pub parts : ms ≡ before ++ (opening ∷ inside)
-  pub begins : opening .what ≡ begin
-  pub matches : balanced 0 (events inside) ≡ true
-
 module _ {V M : Type 0} where
   -- a row ends each group it begins, and some n more, or has a latest opening
   abbrev pub Row : List (Moment V M) → Type 0
-  Row ms = ((n : ℕ) × (balanced n (events ms) ≡ true)) ⊎ Latest ms
+  Row ms = ((n : ℕ) × (balanced n (events ms) ≡ true)) ⊎ Opened ms
 
   -- one moment more at the front
   row-after : (m : Moment V M) (ms : List (Moment V M)) (e : Event) → m .what ≡ e → (n : ℕ) → balanced n (events ms) ≡ true → Row (m ∷ ms)

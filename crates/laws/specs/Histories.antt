@@ -54,6 +54,15 @@ pub record Spans {V M : Type 0} (history : List (Moment V M)) (opening : Moment 
   pub matches : balanced 0 (events inside) ≡ true
   pub ends : closing .what ≡ end
 
+-- a group that is open at the end of some moments: what came before it, its opening, and what is inside it so far
+pub record Opened {V M : Type 0} (moments : List (Moment V M)) : Type 0 where
+  pub before : List (Moment V M)
+  pub opening : Moment V M
+  pub inside : List (Moment V M)
+  pub parts : moments ≡ before ++ (opening ∷ inside)
+  pub begins : opening .what ≡ begin
+  pub matches : balanced 0 (events inside) ≡ true
+
 module _ {V M : Type 0} (k : Ops V M) where
   -- what a call counts as where it is carried out
   abbrev pub event : Act V → Table V M → Event

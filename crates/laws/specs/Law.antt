@@ -10,7 +10,7 @@ use Rattle.save_stack.specs.declared.entry.Entry.{Entry}
 use Rattle.save_stack.specs.declared.entry.Entry.the-variants.{Saved, Held, Boundary}
 use Rattle.engine.specs.Tables.{Table}
 use Rattle.laws.specs.Calls.{Call, New}
-use Rattle.laws.specs.Histories.{Event, end, global, Moment, events, untouched, Spans, afterCalls, history}
+use Rattle.laws.specs.Histories.{Event, end, global, Moment, events, untouched, Spans, Opened, afterCalls, history}
 
 -- how many of the places below n hold the list b
 abbrev pub places : {V M : Type 0} → Ops V M → ℕ → ℕ → (ℕ → Cell V) → ℕ
@@ -29,10 +29,9 @@ module _ {V M : Type 0} (k : Ops V M) where
   abbrev pub reads : Table V M → ℕ → Reading
   reads t p = k .reads (t .store .cells p .value) (t .pool) p
 
-  -- every close ends a group that was opened
+  -- every close ends a group that is open right before it
   abbrev pub Closes-match : Table V M → List (Call V) → Type 0
-  Closes-match t calls = (earlier later : List (Moment V M)) (closing : Moment V M) → history k calls t ≡ earlier ++ (closing ∷ later) → closing .what ≡ end →
-      (opening : Moment V M) × ((inside : List (Moment V M)) × Spans (history k calls t) opening inside closing)
+  Closes-match t calls = (earlier later : List (Moment V M)) (closing : Moment V M) → history k calls t ≡ earlier ++ (closing ∷ later) → closing .what ≡ end → Opened earlier
 
   -- right after its close, a register that was not assigned globally inside the group reads as at its opening
   abbrev pub Groups-restore : Table V M → List (Call V) → Type 0
@@ -56,7 +55,10 @@ module _ {V M : Type 0} (k : Ops V M) where
   Lists-counted t calls = Counted (afterCalls k calls t) ×
       ((before rest : List (Moment V M)) (now : Moment V M) → history k calls t ≡ before ++ (now ∷ rest) → Counted (now .table))
 
-  -- the law: all this holds of a new table and any calls on it
+  -- all this of any calls on a table
+  abbrev pub Scopes-and-counts : Table V M → Type 0
+  Scopes-and-counts t = (calls : List (Call V)) → Closes-match t calls × Groups-restore t calls × Groups-retain t calls × Lists-counted t calls
+
+  -- the law: so it is if the table is new
   abbrev pub Law : Table V M → Type 0
-  Law t = New k t → (calls : List (Call V)) →
-      Closes-match t calls × Groups-restore t calls × Groups-retain t calls × Lists-counted t calls
+  Law t = New k t → Scopes-and-counts t

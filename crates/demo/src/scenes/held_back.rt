@@ -28,7 +28,7 @@ fn hold(saves: &mut SaveStack<Plain>, state: &State) -> Result<(), EngineFault> 
     save_for_after(saves, state, 52)
 }
 
-/// `{\aftergroup\count\aftergroup3\aftergroup=\aftergroup4}`
+/// `\hbox{\aftergroup\count\aftergroup3\aftergroup=\aftergroup4}`
 pub fn play(rt: &LibcRuntime) -> Result<(), AnyError> {
     let mut cells = [Cell {
         value: number(0),
@@ -41,7 +41,7 @@ pub fn play(rt: &LibcRuntime) -> Result<(), AnyError> {
     let mut pool = NoPool {};
     let mut saves = Stack::limited(&mut entries);
     let mut state = State::new(&mut words);
-    let group = carried_out(open_group(&mut saves, &mut state, &mut out, GroupKind::Simple, 7))?;
+    let group = carried_out(open_group(&mut saves, &mut state, &mut out, GroupKind::Hbox, 7))?;
     let held = hold(&mut saves, &state);
     let closed = close(
         &mut store,

@@ -5,6 +5,7 @@ use crate::parts::number;
 use crate::parts::print_registers;
 use crate::parts::print_written;
 use engine::fault::EngineFault;
+use laws::small_scopes_and_counts;
 use registers::assign::assign;
 use registers::assign::assign_globally;
 use registers::group::open_group;
@@ -41,6 +42,8 @@ pub fn play(rt: &LibcRuntime) -> Result<(), AnyError> {
     let mut entries = [Entry::<Plain>::Held(0); 16];
     let mut words = [0u16; 16];
     let mut out = [0u8; 1024];
+    // A table made of this memory obeys the law of scopes and counts.
+    small_scopes_and_counts(&mut cells, &mut entries, &mut words);
     let mut store = Flat::new(&mut cells);
     let mut pool = NoPool {};
     let mut saves = Stack::limited(&mut entries);
