@@ -17,7 +17,7 @@ use values::plain::Plain;
 use values::plain::PlainValue;
 
 /// The result of a call that should be carried out.
-pub fn carried_out<T>(answer: Result<T, EngineFault>) -> Result<T, AnyError> {
+pub(crate) fn carried_out<T>(answer: Result<T, EngineFault>) -> Result<T, AnyError> {
     match answer {
         Ok(x) => Ok(x),
         Err(_) =>
@@ -26,7 +26,7 @@ pub fn carried_out<T>(answer: Result<T, EngineFault>) -> Result<T, AnyError> {
 }
 
 /// The refusal's number, where a call should be refused; 0 where it was carried out.
-pub fn refusal_of<T: Drop>(answer: Result<T, EngineFault>) -> u8 {
+pub(crate) fn refusal_of<T: Drop>(answer: Result<T, EngineFault>) -> u8 {
     match answer {
         Ok(_) => 0,
         Err(fault) => fault.refusal().number(),
@@ -34,7 +34,7 @@ pub fn refusal_of<T: Drop>(answer: Result<T, EngineFault>) -> u8 {
 }
 
 /// Closes the group. If that is refused, the group is unwound, since its handle must not be let go.
-pub fn close(
+pub(crate) fn close(
     store: &mut Flat<Plain>,
     pool: &mut NoPool,
     saves: &mut SaveStack<Plain>,
@@ -52,7 +52,7 @@ pub fn close(
 }
 
 /// Ends the groups from the one that was opened on: how many. A group that was not opened is none.
-pub fn end(
+pub(crate) fn end(
     store: &mut Flat<Plain>,
     pool: &mut NoPool,
     saves: &mut SaveStack<Plain>,
@@ -67,14 +67,14 @@ pub fn end(
 }
 
 /// Prints what is written of an output.
-pub fn print_written(rt: &LibcRuntime, out: &[u8], writer: &Writer) -> Result<(), AnyError> {
+pub(crate) fn print_written(rt: &LibcRuntime, out: &[u8], writer: &Writer) -> Result<(), AnyError> {
     let end = writer.mark.min(out.len());
     rt.stdout().write_all(&out[0..end])?;
     Ok(())
 }
 
 /// Prints every filled register.
-pub fn print_registers(
+pub(crate) fn print_registers(
     rt: &LibcRuntime,
     store: &Flat<Plain>,
     pool: &NoPool,
@@ -90,6 +90,6 @@ pub fn print_registers(
 }
 
 /// A number as a value.
-pub fn number(number: i32) -> Plain {
+pub(crate) fn number(number: i32) -> Plain {
     Plain { number }
 }

@@ -1,5 +1,6 @@
 pub mod Limits
 pub mod Groups
 pub mod Refusals
-pub mod Classes
 pub mod Codes
+pub mod Words
+pub mod Classes

@@ -1,6 +1,7 @@
 //! The classes of registers.
 ghost use mathlib.Core.Path.{_≡_};
-ghost use Rattle.tokens.specs.Classes.{className, isList};
+ghost use Rattle.tokens.specs.Classes.{classCode, className, isList};
+use crate::word::word;
 
 /// What a register holds.
 #[derive(Clone, Copy)]
@@ -14,15 +15,22 @@ pub enum Class {
 }
 
 impl Class {
-    /// The word by which a text names a register of the class, without its backslash.
+    /// The code of the word by which a text names a register of the class.
+    pub fn code(self) -> u16
+        ensures { λ r. ⌜ r ≡ classCode self ⌝ }
+    {
+        match self {
+            Class::Count => 262,
+            Class::Dimen => 263,
+            Class::Toks => 264,
+        }
+    }
+
+    /// That word, without its backslash.
     pub fn name(self) -> &'static [u8]
         ensures { λ r. ⌜ now r ≡ className self ⌝ }
     {
-        match self {
-            Class::Count => b"count",
-            Class::Dimen => b"dimen",
-            Class::Toks => b"toks",
-        }
+        word(self.code())
     }
 
     /// Whether registers of the class hold lists.

@@ -4,3 +4,4 @@ pub mod code;
 pub mod group;
 pub mod limits;
 pub mod refusal;
+pub mod word;

@@ -20,7 +20,7 @@ use values::plain::Plain;
 use values::plain::PlainValue;
 
 /// `{\begingroup}` is refused at `}`; `\endgroup}` then closes both
-pub fn play(rt: &LibcRuntime) -> Result<(), AnyError> {
+pub(crate) fn play(rt: &LibcRuntime) -> Result<(), AnyError> {
     let mut cells = [Cell {
         value: number(0),
         level: 1,

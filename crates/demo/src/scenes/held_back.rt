@@ -29,7 +29,7 @@ fn hold(saves: &mut SaveStack<Plain>, state: &State) -> Result<(), EngineFault> 
 }
 
 /// `\hbox{\aftergroup\count\aftergroup3\aftergroup=\aftergroup4}`
-pub fn play(rt: &LibcRuntime) -> Result<(), AnyError> {
+pub(crate) fn play(rt: &LibcRuntime) -> Result<(), AnyError> {
     let mut cells = [Cell {
         value: number(0),
         level: 1,

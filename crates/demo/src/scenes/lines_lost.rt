@@ -17,7 +17,7 @@ use values::plain::Plain;
 use values::plain::PlainValue;
 
 /// Two groups in a trace of 60 bytes
-pub fn play(rt: &LibcRuntime) -> Result<(), AnyError> {
+pub(crate) fn play(rt: &LibcRuntime) -> Result<(), AnyError> {
     let mut cells = [Cell {
         value: number(0),
         level: 1,

@@ -61,7 +61,7 @@ fn deepen(
 }
 
 /// One entry, which the group takes: the assignment in it has none. Then as many groups as the level allows.
-pub fn play(rt: &LibcRuntime) -> Result<(), AnyError> {
+pub(crate) fn play(rt: &LibcRuntime) -> Result<(), AnyError> {
     let mut cells = [Cell {
         value: number(0),
         level: 1,

@@ -34,7 +34,7 @@ fn three_times(
 }
 
 /// `\count1=5 {\count1=7 \global\count1=9 \count1=8 }`
-pub fn play(rt: &LibcRuntime) -> Result<(), AnyError> {
+pub(crate) fn play(rt: &LibcRuntime) -> Result<(), AnyError> {
     let mut cells = [Cell {
         value: number(0),
         level: 1,

@@ -19,7 +19,7 @@ use values::plain::Plain;
 use values::plain::PlainValue;
 
 /// `\count2=1 {\count2=2 \begingroup\count2=3 \hbox{\count2=4 \cell\count2=5 `, and all of it unwound
-pub fn play(rt: &LibcRuntime) -> Result<(), AnyError> {
+pub(crate) fn play(rt: &LibcRuntime) -> Result<(), AnyError> {
     let mut cells = [Cell {
         value: number(0),
         level: 1,
