@@ -10,7 +10,7 @@ use Rattle.tokens.specs.Codes.{firstWord}
 -- the words, in the order of their codes
 abbrev pub words : List (List ℕ)
 words =
-      codes "begingroup" ∷ codes "endgroup" ∷ codes "hbox" ∷ codes "cell" ∷ codes "endcell" ∷ codes "global"
+    codes "begingroup" ∷ codes "endgroup" ∷ codes "hbox" ∷ codes "cell" ∷ codes "endcell" ∷ codes "global"
     ∷ codes "count" ∷ codes "dimen" ∷ codes "toks" ∷ codes "aftergroup" ∷ codes "the" ∷ codes "relax" ∷ []
 
 -- the letters of the word of a code; none for a code that is no word's

@@ -32,5 +32,9 @@ fn word_at(i: usize) -> &'static [u8]
 pub fn word(code: u16) -> &'static [u8]
     ensures { λ r. ⌜ now r ≡ wordText code ⌝ }
 {
-    if code < FIRST_WORD { b"" } else { word_at((code - FIRST_WORD) as usize) }
+    if code < FIRST_WORD {
+        b""
+    } else {
+        word_at((code - FIRST_WORD) as usize)
+    }
 }
