@@ -1,0 +1,4 @@
+pub mod Rounding
+pub mod Remainders
+pub mod DigitSteps
+pub mod Signs

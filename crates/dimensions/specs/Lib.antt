@@ -1,0 +1,4 @@
+pub mod Fractions
+pub mod DigitLoops
+pub mod Dimensions
+pub mod Promises
