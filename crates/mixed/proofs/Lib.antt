@@ -1,0 +1,4 @@
+pub mod Counts
+pub mod MixedLaws
+pub mod Joins
+pub mod Absents

@@ -1,0 +1,6 @@
+//! Counted, shared token lists in nodes that are handed over once.
+mod chain;
+pub mod cursor;
+mod list;
+pub mod node;
+pub mod pool;
