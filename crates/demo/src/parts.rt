@@ -10,11 +10,9 @@ use registers::state::State;
 use save_stack::stack::SaveStack;
 use std::error::AnyError;
 use std::io::Write;
-use stores::flat::Flat;
-use stores::flat::ops::FlatStore;
-use values::plain::NoPool;
+use stores::store::Store;
 use values::plain::Plain;
-use values::plain::PlainValue;
+use values::value::Value;
 
 /// The result of a call that should be carried out.
 pub(crate) fn carried_out<T>(answer: Result<T, EngineFault>) -> Result<T, AnyError> {
@@ -34,10 +32,10 @@ pub(crate) fn refusal_of<T: Drop>(answer: Result<T, EngineFault>) -> u8 {
 }
 
 /// Closes the group. If that is refused, the group is unwound, since its handle must not be let go.
-pub(crate) fn close(
-    store: &mut Flat<Plain>,
-    pool: &mut NoPool,
-    saves: &mut SaveStack<Plain>,
+pub(crate) fn close<S: Store<V>, V: Value>(
+    store: &mut S,
+    pool: &mut V::Pool,
+    saves: &mut SaveStack<V>,
     state: &mut State,
     out: &mut [u8],
     group: GroupHandle,
@@ -52,10 +50,10 @@ pub(crate) fn close(
 }
 
 /// Ends the groups from the one that was opened on: how many. A group that was not opened is none.
-pub(crate) fn end(
-    store: &mut Flat<Plain>,
-    pool: &mut NoPool,
-    saves: &mut SaveStack<Plain>,
+pub(crate) fn end<S: Store<V>, V: Value>(
+    store: &mut S,
+    pool: &mut V::Pool,
+    saves: &mut SaveStack<V>,
     state: &mut State,
     out: &mut [u8],
     opened: Result<GroupHandle, EngineFault>,
@@ -74,10 +72,10 @@ pub(crate) fn print_written(rt: &LibcRuntime, out: &[u8], writer: &Writer) -> Re
 }
 
 /// Prints every filled register.
-pub(crate) fn print_registers(
+pub(crate) fn print_registers<S: Store<V>, V: Value>(
     rt: &LibcRuntime,
-    store: &Flat<Plain>,
-    pool: &NoPool,
+    store: &S,
+    pool: &V::Pool,
 ) -> Result<(), AnyError> {
     let mut out = [0u8; 1024];
     let mut writer = Writer::new();
