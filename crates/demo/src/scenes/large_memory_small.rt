@@ -5,10 +5,10 @@ use crate::large::toks;
 use crate::parts::carried_out;
 use crate::parts::print_registers;
 use crate::parts::refusal_of;
-use registers::assign::assign;
-use registers::assign::assign_list;
 use mixed::kind::MixedValue;
 use mixed::mixed::Mixed;
+use registers::assign::assign;
+use registers::assign::assign_list;
 use registers::state::State;
 use save_stack::entry::Entry;
 use save_stack::stack::Stack;
@@ -23,10 +23,27 @@ pub(crate) fn play(rt: &LibcRuntime) -> Result<(), AnyError> {
     let mut words = [0u16; 1];
     let mut saves = Stack::limited(&mut entries);
     let state = State::new(&mut words);
-    let list = refusal_of(assign_list(&mut store, &mut pool, &mut saves, &state, toks(1), &[97, 98]));
-    carried_out(assign(&mut store, &mut pool, &mut saves, &state, 0, Mixed::Number(5)))?;
+    let list = refusal_of(assign_list(
+        &mut store,
+        &mut pool,
+        &mut saves,
+        &state,
+        toks(1),
+        &[97, 98],
+    ));
+    carried_out(assign(
+        &mut store,
+        &mut pool,
+        &mut saves,
+        &state,
+        0,
+        Mixed::Number(5),
+    ))?;
     let cell = refusal_of(assign_list(&mut store, &mut pool, &mut saves, &state, toks(1), &[97]));
     let free = pool.free_nodes();
-    println!(rt, "no list nodes: refused {list}, no cell: refused {cell}, {free} list nodes free")?;
+    println!(
+        rt,
+        "no list nodes: refused {list}, no cell: refused {cell}, {free} list nodes free"
+    )?;
     print_registers(rt, &store, &pool)
 }

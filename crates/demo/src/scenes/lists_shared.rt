@@ -8,17 +8,17 @@ use crate::parts::carried_out;
 use crate::parts::close;
 use crate::parts::print_registers;
 use crate::parts::print_written;
+use mixed::kind::MixedValue;
+use mixed::mixed::Mixed;
 use registers::assign::assign;
 use registers::assign::assign_list;
 use registers::group::open_group;
-use tokens::group::GroupKind;
-use mixed::kind::MixedValue;
-use mixed::mixed::Mixed;
 use registers::state::State;
 use save_stack::entry::Entry;
 use save_stack::stack::Stack;
 use sparse::sparse::ops::SparseStore;
 use std::error::AnyError;
+use tokens::group::GroupKind;
 
 /// `\toks1={ab}\toks2=\toks1 {\toks1={}}`: one list, with count 2
 pub(crate) fn play(rt: &LibcRuntime) -> Result<(), AnyError> {
@@ -29,12 +29,26 @@ pub(crate) fn play(rt: &LibcRuntime) -> Result<(), AnyError> {
     let mut out = [0u8; 1024];
     let mut saves = Stack::limited(&mut entries);
     let mut state = State::new(&mut words);
-    carried_out(assign_list(&mut store, &mut pool, &mut saves, &state, toks(1), &[97, 98]))?;
+    carried_out(assign_list(
+        &mut store,
+        &mut pool,
+        &mut saves,
+        &state,
+        toks(1),
+        &[97, 98],
+    ))?;
     let list = held(&store, toks(1));
     carried_out(assign(&mut store, &mut pool, &mut saves, &state, toks(2), list))?;
     let group = carried_out(open_group(&mut saves, &mut state, &mut out, GroupKind::Simple, 1))?;
     let emptied = assign_list(&mut store, &mut pool, &mut saves, &state, toks(1), &[]);
-    let closed = close(&mut store, &mut pool, &mut saves, &mut state, &mut out, group);
+    let closed = close(
+        &mut store,
+        &mut pool,
+        &mut saves,
+        &mut state,
+        &mut out,
+        group,
+    );
     carried_out(emptied)?;
     carried_out(closed)?;
     print_written(rt, &out, &state.trace)?;
