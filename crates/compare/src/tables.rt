@@ -45,7 +45,7 @@ fn same_trace(a: &Outcome, b: &Outcome) -> bool {
             return false;
         }
     }
-    a.writer.mark < 150 && a.writer.lost == b.writer.lost
+    a.writer.mark == b.writer.mark && a.writer.lost == b.writer.lost
 }
 
 fn flat_plain(heap: Global, steps: &[Step]) -> Result<Outcome, AllocError> {

@@ -163,6 +163,7 @@ pub fn assign_list<S: Store<V>, V: Value>(
 {
     let demand = Demand::of_list::<V>(list, pool, place);
     let old = ready(store, saves, nesting, global, place, demand)?;
+    // The nodes were counted among the checks, so the list is always made.
     let Some(value) = V::make_list(list, pool) else {
         return Err(EngineFault {
             cause: Cause::Place {

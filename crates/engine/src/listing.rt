@@ -21,6 +21,7 @@ pub fn listing<S: Store<V>, V: Value>(
 {
     let mut from = 0;
     while let Some(place) = store.next_filled(from) {
+        // A filled place is below the reach, so there always is a cell.
         let Some(cell) = store.cell(place) else {
             return Ok(());
         };

@@ -21,7 +21,8 @@ pub data Call (V : Type 0) : Type 0 where
   assignGlobally : ℕ → Source V → Call V
   saveForAfter : ℕ → Call V
 
--- what a call on a table counts as: unwinding is so many closes, each other call is itself
+-- what a call on a table counts as: unwinding is so many closes, each other call is itself.
+-- A run of a text will be one more call here, which counts as the acts that its statements stand for; nothing else of the law speaks of single calls
 abbrev pub acts : {V M : Type 0} → Call V → Table V M → List (Act V)
 acts (openGroup g) t = opens g ∷ []
 acts (closeGroup kind l) t = closes kind l ∷ []
