@@ -1,4 +1,6 @@
 //! Both stores and both kinds of value are worked by the same calls, some thousand sequences of them, and held against each other and against a naive judge.
+#![tactic(auto)]
+
 mod judge;
 mod play;
 mod script;

@@ -1,4 +1,6 @@
 //! A ticket's register work by calls on both models: what was done is printed, scene by scene.
+#![tactic(auto)]
+
 mod large;
 mod parts;
 mod scenes;

@@ -1,4 +1,6 @@
 //! Dimensions: whole numbers of scaled points, read from decimals and printed in decimals as TeX does.
+#![tactic(auto)]
+
 pub mod printing;
 pub mod promises;
 pub mod reading;

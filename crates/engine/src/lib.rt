@@ -1,4 +1,6 @@
 //! Groups and registers: what the calls do, without handles.
+#![tactic(auto)]
+
 pub mod assign;
 pub mod close;
 pub mod demand;

@@ -1,4 +1,6 @@
 //! Laws over whole sequences of calls.
+#![tactic(auto)]
+
 ghost use Rattle.std.specs.Prelude.{length, vec_len};
 ghost use Rattle.save_stack.specs.Meanings.{stack_of};
 ghost use Rattle.engine.specs.Tables.{table_of};

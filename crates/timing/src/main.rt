@@ -1,4 +1,6 @@
 //! How long the sparse store takes, few cells against many. Without the word `measure` it only says how it is used, since times differ from run to run.
+#![tactic(auto)]
+
 use anyhow::anyhow;
 use sparse::node::Tip;
 use sparse::sparse::Sparse;

@@ -1,4 +1,6 @@
 //! Counted, shared token lists in nodes that are handed over once.
+#![tactic(auto)]
+
 mod chain;
 pub mod cursor;
 mod list;

@@ -1,4 +1,6 @@
 //! Words, codes, kinds of group, refusals and limits: each name and each number has its one home here.
+#![tactic(auto)]
+
 pub mod class;
 pub mod code;
 pub mod group;

@@ -1,4 +1,6 @@
 //! The lines of the trace and of the listing.
+#![tactic(auto)]
+
 pub mod groups;
 mod line;
 mod parts;

@@ -1,4 +1,6 @@
 //! What a register can hold: the trait of a kind of value, and plain numbers.
+#![tactic(auto)]
+
 pub mod name;
 pub mod plain;
 pub mod scalar;

@@ -3,4 +3,4 @@ use Rattle.output.proofs.Pieces.{printed}
 use Rattle.dimensions.proofs.printing.put_dimension.Goals as goal
 
 pub returns : goal.returns
-returns c = let f = c.ranges.n in printed (simp to_z-of_z at c.write-dimension-whole.ensures)
+returns c = let f = c.ranges.n in printed (simp to_z-of_z at c.write_dimension-whole.ensures)

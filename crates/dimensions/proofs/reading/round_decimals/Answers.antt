@@ -12,7 +12,7 @@ loop-digit-init c = (
   tt,
   tt,
   lit< tt,
-  at_start _ c.args.digits.now (ap (λ z. iter_rest (rev_source z)) c.into-iter-digit-iterator.ensures.into-iter-gives ∙ ap iter_rest c.rev-digit-items.ensures.source ∙ c.iter.ensures.rest),
+  at_start _ c.args.digits.now (ap (λ z. iter_rest (rev_source z)) c.into_iter-digit-iterator.ensures.into_iter_gives ∙ ap iter_rest c.rev-digit-items.ensures.source ∙ c.iter.ensures.rest),
 )
 
 pub loop-digit-preserved : goal.loop-digit-preserved

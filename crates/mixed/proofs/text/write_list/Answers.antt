@@ -20,16 +20,16 @@ loop-token-preserved c =
     let x = c.in-Some.token.code in (
       i.0 ++ (x ∷ []),
       append_assoc i.0 (x ∷ []) (rest_of c.args.pool.now c.in-Some.token.rest) ∙ ap (λ (z : List ℕ). i.0 ++ z) (sym e) ∙ i.1,
-      reads (joined_one i.0 x) (next i.2 c.if-not-write-token.ensures),
+      reads (joined_one i.0 x) (next i.2 c.if-not-write_token.ensures),
     )
 
-pub returns-then-not-write-token : goal.returns-then-not-write-token
-returns-then-not-write-token c =
+pub returns-then-not-write_token : goal.returns-then-not-write_token
+returns-then-not-write_token c =
     let i = c.loop-token.invariant in
     reads (joined_cut ((pool_of c.args.pool.now).list c.args.list) i.0 (rest_of c.args.pool.now c.in-Some.token.rest) (rest_of c.args.pool.now c.loop-token.cursor) c.in-Some.token.code i.1 c.in-Some.ensures)
-    (more _ (next i.2 c.if-not-write-token.ensures))
+    (more _ (next i.2 c.if-not-write_token.ensures))
 
 pub returns : goal.returns
 returns c =
     let i = c.loop-token.invariant in
-    reads (ap (flat_map token_text) (sym (append-nil i.0) ∙ ap (λ (z : List ℕ). i.0 ++ z) (sym c.in-default.ensures) ∙ i.1)) i.2
+    reads (ap (flat_map token_text) (sym (append-nil i.0) ∙ ap (λ (z : List ℕ). i.0 ++ z) (sym c.in_default.ensures) ∙ i.1)) i.2

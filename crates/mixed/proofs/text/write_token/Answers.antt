@@ -7,5 +7,5 @@ use Rattle.mixed.proofs.text.write_token.Goals as goal
 pub returns : goal.returns
 returns c =
     let code = c.args.code in
-    reads (sym (ap (λ (b : Bool). cond b (code ∷ []) (codes "\\" ++ word_text code ++ codes " ")) (le-ltb code 256 c.if-code-lt-FIRST-WORD.false)))
+    reads (sym (ap (λ (b : Bool). cond b (code ∷ []) (codes "\\" ++ word_text code ++ codes " ")) (le-ltb code 256 c.if-code-lt-FIRST_WORD.false)))
     (ends (lit< tt) (on (begun c.text-2.ensures) (reads c.word.ensures c.text-3.ensures)) c.text-4.ensures)

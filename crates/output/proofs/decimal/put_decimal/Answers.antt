@@ -7,8 +7,8 @@ use Rattle.output.proofs.decimal.put_decimal.Goals as goal
 pub loop-m-init : goal.loop-m-init
 loop-m-init c = (omega arith, refl, omega arith, length-decimal-le 10 c.args.n (omega arith) (omega arith) (omega arith), sym (append-nil (decimal c.args.n)))
 
-pub overflow-sub-i : goal.overflow-sub-i
-overflow-sub-i c = omega (arith, decimal_nonempty c.loop-m.m (omega arith))
+pub overflow_sub-i : goal.overflow_sub-i
+overflow_sub-i c = omega (arith, decimal_nonempty c.loop-m.m (omega arith))
 
 pub loop-m-preserved : goal.loop-m-preserved
 loop-m-preserved c =
@@ -25,8 +25,8 @@ loop-m-preserved c =
       c.loop-m.invariant.4 ∙ ap (λ (z : List ℕ). z ++ drop c.loop-m.i c.loop-m.digits) s ∙ append_assoc (decimal (m / 10)) (x ∷ []) (drop c.loop-m.i c.loop-m.digits) ∙ ap (λ (z : List ℕ). decimal (m / 10) ++ z) (sym f),
     )
 
-pub overflow-sub-i-2 : goal.overflow-sub-i-2
-overflow-sub-i-2 c = omega (arith, decimal_nonempty c.loop-m.m (omega arith))
+pub overflow_sub-i-2 : goal.overflow_sub-i-2
+overflow_sub-i-2 c = omega (arith, decimal_nonempty c.loop-m.m (omega arith))
 
 pub returns : goal.returns
 returns c =
@@ -39,4 +39,4 @@ returns c =
     let d : decimal c.args.n ≡ (48 + m) ∷ drop c.loop-m.i c.loop-m.digits =
     c.loop-m.invariant.4 ∙ ap (λ (z : List ℕ). z ++ drop c.loop-m.i c.loop-m.digits) (decimal_digit m (omega arith)) in
     let t : take (10 - j) (drop j ys) ≡ decimal c.args.n = b ∙ f ∙ sym d in
-    said t refl c.put-text.ensures
+    said t refl c.put_text.ensures

@@ -8,5 +8,5 @@ use Rattle.output.proofs.decimal.put_signed.Goals as goal
 pub returns : goal.returns
 returns c =
     let f = c.ranges.n in
-    printed (reads (signed_below c.args.n c.unsigned-abs-2.result (omega (arith, ints)) (simp to_z-of_z at c.unsigned-abs-2.ensures.value))
-    (ends (decimal_nonempty c.unsigned-abs-2.result (omega arith)) (begun c.text.ensures) c.decimal-whole.ensures))
+    printed (reads (signed_below c.args.n c.unsigned_abs-2.result (omega (arith, ints)) (simp to_z-of_z at c.unsigned_abs-2.ensures.value))
+    (ends (decimal_nonempty c.unsigned_abs-2.result (omega arith)) (begun c.text.ensures) c.decimal-whole.ensures))

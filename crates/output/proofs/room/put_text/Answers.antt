@@ -7,6 +7,6 @@ returns c =
     record {
       length_is = search rules;
       whole_is = refl;
-      laid_is = ap (λ z. z ++ drop (c.if-whole.size - 0) c.args.to.now) c.copy-from-slice.ensures.after
+      laid_is = ap (λ z. z ++ drop (c.if-whole.size - 0) c.args.to.now) c.copy_from_slice.ensures.after
           ∙ copied (c.if-whole.size - 0) c.args.text.now c.args.to.now (search rules);
     }

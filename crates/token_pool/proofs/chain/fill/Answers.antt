@@ -13,17 +13,17 @@ loop-k-init c =
       moved_none c.args.nodes.now top_nodes c.args.owner,
     )
 
-pub overflow-cast-i : goal.overflow-cast-i
-overflow-cast-i c = omega (arith, (chain_step c.loop-k.nodes top_nodes c.loop-k.rest (c.args.free - c.loop-k.k) (omega arith) c.loop-k.invariant.0).0)
+pub overflow_cast-i : goal.overflow_cast-i
+overflow_cast-i c = omega (arith, (chain_step c.loop-k.nodes top_nodes c.loop-k.rest (c.args.free - c.loop-k.k) (omega arith) c.loop-k.invariant.0).0)
 
-pub offset-bounds-nodes-i : goal.offset-bounds-nodes-i
-offset-bounds-nodes-i c = omega (arith, (chain_step c.loop-k.nodes top_nodes c.loop-k.rest (c.args.free - c.loop-k.k) (omega arith) c.loop-k.invariant.0).0)
+pub offset_bounds-nodes-i : goal.offset_bounds-nodes-i
+offset_bounds-nodes-i c = omega (arith, (chain_step c.loop-k.nodes top_nodes c.loop-k.rest (c.args.free - c.loop-k.k) (omega arith) c.loop-k.invariant.0).0)
 
 pub bounds-nodes-i : goal.bounds-nodes-i
 bounds-nodes-i c = omega (arith, (chain_step c.loop-k.nodes top_nodes c.loop-k.rest (c.args.free - c.loop-k.k) (omega arith) c.loop-k.invariant.0).0)
 
-pub offset-bounds-nodes-i-in-loop-k : goal.offset-bounds-nodes-i-in-loop-k
-offset-bounds-nodes-i-in-loop-k c = omega (arith, (chain_step c.loop-k.nodes top_nodes c.loop-k.rest (c.args.free - c.loop-k.k) (omega arith) c.loop-k.invariant.0).0)
+pub offset_bounds-nodes-i-in-loop-k : goal.offset_bounds-nodes-i-in-loop-k
+offset_bounds-nodes-i-in-loop-k c = omega (arith, (chain_step c.loop-k.nodes top_nodes c.loop-k.rest (c.args.free - c.loop-k.k) (omega arith) c.loop-k.invariant.0).0)
 
 pub bounds-nodes-i-in-loop-k : goal.bounds-nodes-i-in-loop-k
 bounds-nodes-i-in-loop-k c = omega (arith, (chain_step c.loop-k.nodes top_nodes c.loop-k.rest (c.args.free - c.loop-k.k) (omega arith) c.loop-k.invariant.0).0)

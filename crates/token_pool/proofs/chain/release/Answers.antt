@@ -13,20 +13,20 @@ loop-k-init c =
       inl (refl, refl),
     )
 
-pub overflow-cast-next : goal.overflow-cast-next
-overflow-cast-next c = omega (arith, (chain_step c.loop-k.nodes c.args.owner c.loop-k.i (c.args.count - c.loop-k.k) (omega arith) c.loop-k.invariant.1).0)
+pub overflow_cast-next : goal.overflow_cast-next
+overflow_cast-next c = omega (arith, (chain_step c.loop-k.nodes c.args.owner c.loop-k.i (c.args.count - c.loop-k.k) (omega arith) c.loop-k.invariant.1).0)
 
-pub offset-bounds-nodes-i : goal.offset-bounds-nodes-i
-offset-bounds-nodes-i c = omega (arith, (chain_step c.loop-k.nodes c.args.owner c.loop-k.i (c.args.count - c.loop-k.k) (omega arith) c.loop-k.invariant.1).0)
+pub offset_bounds-nodes-i : goal.offset_bounds-nodes-i
+offset_bounds-nodes-i c = omega (arith, (chain_step c.loop-k.nodes c.args.owner c.loop-k.i (c.args.count - c.loop-k.k) (omega arith) c.loop-k.invariant.1).0)
 
 pub bounds-nodes-i : goal.bounds-nodes-i
 bounds-nodes-i c = omega (arith, (chain_step c.loop-k.nodes c.args.owner c.loop-k.i (c.args.count - c.loop-k.k) (omega arith) c.loop-k.invariant.1).0)
 
-pub overflow-cast-i : goal.overflow-cast-i
-overflow-cast-i c = omega (arith, (chain_step c.loop-k.nodes c.args.owner c.loop-k.i (c.args.count - c.loop-k.k) (omega arith) c.loop-k.invariant.1).0)
+pub overflow_cast-i : goal.overflow_cast-i
+overflow_cast-i c = omega (arith, (chain_step c.loop-k.nodes c.args.owner c.loop-k.i (c.args.count - c.loop-k.k) (omega arith) c.loop-k.invariant.1).0)
 
-pub offset-bounds-nodes-i-in-loop-k : goal.offset-bounds-nodes-i-in-loop-k
-offset-bounds-nodes-i-in-loop-k c = omega (arith, (chain_step c.loop-k.nodes c.args.owner c.loop-k.i (c.args.count - c.loop-k.k) (omega arith) c.loop-k.invariant.1).0)
+pub offset_bounds-nodes-i-in-loop-k : goal.offset_bounds-nodes-i-in-loop-k
+offset_bounds-nodes-i-in-loop-k c = omega (arith, (chain_step c.loop-k.nodes c.args.owner c.loop-k.i (c.args.count - c.loop-k.k) (omega arith) c.loop-k.invariant.1).0)
 
 pub bounds-nodes-i-in-loop-k : goal.bounds-nodes-i-in-loop-k
 bounds-nodes-i-in-loop-k c = omega (arith, (chain_step c.loop-k.nodes c.args.owner c.loop-k.i (c.args.count - c.loop-k.k) (omega arith) c.loop-k.invariant.1).0)

@@ -6,10 +6,10 @@ use Rattle.token_pool.proofs.Lists.{head_write}
 use Rattle.token_pool.proofs.Models.{counted, there_held, there_absent, model_recount, drops_absent, drops_last, drops_one}
 use Rattle.token_pool.proofs.list.drop_use.Goals as goal
 
-pub returns-in-default : goal.returns-in-default
-returns-in-default c =
+pub returns-in_default : goal.returns-in_default
+returns-in_default c =
     let ns = c.args.nodes.now in
-    let t = there_absent ns c.args.free c.args.list c.in-default.ensures in
+    let t = there_absent ns c.args.free c.args.list c.in_default.ensures in
     record { sound = c.requires; found = sym t; after = sym (drops_absent (nodes_pool ns c.args.free) c.args.list t) }
 
 pub returns : goal.returns

@@ -10,8 +10,8 @@ use Rattle.token_pool.proofs.list.remove.Goals as goal
 nodes_read : (ns : List Node) (b : ℕ) → (at ns b).owner ≡ b → (get_or ns b blank).left + 1 ≡ suc (at ns b).left
 nodes_read ns b e = ap (λ (n : Node). n.left + 1) (read ns b (head_in ns b e)) ∙ add-one (at ns b).left
 
-pub overflow-add-count : goal.overflow-add-count
-overflow-add-count c = omega (arith, nodes_read c.args.nodes.now c.args.list c.requires.head, room c.args.nodes.now c.args.list c.args.top c.args.free c.requires.sound c.requires.head)
+pub overflow_add-count : goal.overflow_add-count
+overflow_add-count c = omega (arith, nodes_read c.args.nodes.now c.args.list c.requires.head, room c.args.nodes.now c.args.list c.args.top c.args.free c.requires.sound c.requires.head)
 
 pub release-requires : goal.release-requires
 release-requires c =

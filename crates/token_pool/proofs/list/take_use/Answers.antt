@@ -10,10 +10,10 @@ use Rattle.token_pool.proofs.list.take_use.Goals as goal
 pub recount-requires : goal.recount-requires
 recount-requires c = head_in c.args.nodes.now c.args.list (ap (λ (n : Node). n.owner) c.in-Some.ensures.0 ∙ c.in-Some.ensures.1)
 
-pub returns-in-default : goal.returns-in-default
-returns-in-default c top free s =
+pub returns-in_default : goal.returns-in_default
+returns-in_default c top free s =
     let ns = c.args.nodes.now in
-    let q = takes_absent (nodes_pool ns free) c.args.list (there_absent ns free c.args.list c.in-default.ensures) in
+    let q = takes_absent (nodes_pool ns free) c.args.list (there_absent ns free c.args.list c.in_default.ensures) in
     record { sound = s; result = sym q.0; after = sym q.1 }
 
 pub returns-then-node : goal.returns-then-node

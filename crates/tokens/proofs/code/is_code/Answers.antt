@@ -2,14 +2,14 @@ use Rattle.std.proofs.Common.{rules}
 use Rattle.tokens.specs.Codes.{is_code}
 use Rattle.tokens.proofs.code.is_code.Goals as goal
 
-pub returns-then-code-le-LAST-BYTE : goal.returns-then-code-le-LAST-BYTE
+pub returns-then-code-le-LAST_BYTE : goal.returns-then-code-le-LAST_BYTE
 unfolding is_code
-returns-then-code-le-LAST-BYTE c = search rules
+returns-then-code-le-LAST_BYTE c = search rules
 
-pub returns-else-code-le-LAST-BYTE : goal.returns-else-code-le-LAST-BYTE
+pub returns-else-code-le-LAST_BYTE : goal.returns-else-code-le-LAST_BYTE
 unfolding is_code
-returns-else-code-le-LAST-BYTE c = search rules
+returns-else-code-le-LAST_BYTE c = search rules
 
-pub returns-else-code-lt-FIRST-WORD : goal.returns-else-code-lt-FIRST-WORD
+pub returns-else-code-lt-FIRST_WORD : goal.returns-else-code-lt-FIRST_WORD
 unfolding is_code
-returns-else-code-lt-FIRST-WORD c = search rules
+returns-else-code-lt-FIRST_WORD c = search rules

@@ -10,5 +10,5 @@ pub returns : goal.returns
 returns c =
     let h = c.if-entry-gt0.false in
     let named = on (begun c.text.ensures) (reads c.name.ensures c.text-2.ensures) in
-    let p = ends (lit< tt) (on (on named c.write-level.ensures) c.write-place.ensures) c.text-whole.ensures in
+    let p = ends (lit< tt) (on (on named c.write_level.ensures) c.write_place.ensures) c.text-whole.ensures in
     record { result = stood h p; wrote = line c.drop-entry-2.ensures h p }

@@ -8,5 +8,5 @@ returns-then-entry-gt0 g c = record { result = unstood _ _ c.if-entry-gt0.true; 
 pub returns : goal.returns
 returns g c =
     let h = c.if-entry-gt0.false in
-    let p = ends c.requires (on (begun c.text.ensures) c.write-register.ensures) c.text-whole.ensures in
+    let p = ends c.requires (on (begun c.text.ensures) c.write_register.ensures) c.text-whole.ensures in
     record { result = stood h p; wrote = line c.drop-entry-2.ensures h p }

@@ -9,12 +9,12 @@ use Rattle.stores.proofs.flat.ops.count_blanks.Goals.{then-is-blank, else-is-bla
 pub loop-c-preserved : goal.loop-c-preserved
 loop-c-preserved g c =
     let turn = count_turn (is_blank g.row.V-Value.ops.is_zero) c.args.cells.now c.loop-c.c-index c.c-item.result in
-    elim c.if-is-blank.branch [
+    elim c.if-is_blank.branch [
       | then-is-blank w ↦
-          let step = turn true c.loop-c-test.true c.c-item.is w.if-is-blank.ensures in
+          let step = turn true c.loop-c-test.true c.c-item.is w.if-is_blank.ensures in
           (omega arith, omega arith)
       | else-is-blank w ↦
-          let step = turn false c.loop-c-test.true c.c-item.is w.if-is-blank.ensures in
+          let step = turn false c.loop-c-test.true c.c-item.is w.if-is_blank.ensures in
           (omega arith, omega arith)
     ]
 

@@ -2,10 +2,10 @@ use Rattle.std.proofs.Common.{true, false, ◌∙◌, arith}
 use Rattle.stores.proofs.Rows.{row_turn}
 use Rattle.stores.proofs.flat.ops.first_filled.Goals as goal
 
-pub returns-then-not-is-blank : goal.returns-then-not-is-blank
-returns-then-not-is-blank g c =
+pub returns-then-not-is_blank : goal.returns-then-not-is_blank
+returns-then-not-is_blank g c =
     record {
-      value = row_turn g.row.V-Value.ops c.args.cells.now c.loop-at.at c.index-cells-at.result false c.loop-at-test.true c.index-cells-at.is c.if-not-is-blank.ensures
+      value = row_turn g.row.V-Value.ops c.args.cells.now c.loop-at.at c.index-cells-at.result false c.loop-at-test.true c.index-cells-at.is c.if-not-is_blank.ensures
           ∙ c.loop-at.invariant.1;
       near = omega arith;
     }
@@ -13,6 +13,6 @@ returns-then-not-is-blank g c =
 pub loop-at-preserved : goal.loop-at-preserved
 loop-at-preserved g c = (
   omega arith,
-  row_turn g.row.V-Value.ops c.args.cells.now c.loop-at.at c.index-cells-at.result true c.loop-at-test.true c.index-cells-at.is c.if-not-is-blank.ensures
+  row_turn g.row.V-Value.ops c.args.cells.now c.loop-at.at c.index-cells-at.result true c.loop-at-test.true c.index-cells-at.is c.if-not-is_blank.ensures
       ∙ c.loop-at.invariant.1,
 )

@@ -32,5 +32,5 @@ returns c =
     let b = le-leb (length ts) (length ws) l in
     record {
       result = sym b;
-      after = copy_all ts ws c.loop-token.words c.loop-token.done c.loop-token.invariant.0 (sym c.in-default.ensures ∙ c.loop-token.invariant.1) c.loop-token.invariant.2 ∙ sym (cond-true (leb (length ts) (length ws)) _ ws b);
+      after = copy_all ts ws c.loop-token.words c.loop-token.done c.loop-token.invariant.0 (sym c.in_default.ensures ∙ c.loop-token.invariant.1) c.loop-token.invariant.2 ∙ sym (cond-true (leb (length ts) (length ws)) _ ws b);
     }

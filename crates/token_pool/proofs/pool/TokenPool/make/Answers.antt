@@ -25,20 +25,19 @@ pub build-self-requires : goal.build-self-requires
 build-self-requires c =
     let p = c.args.self.now in
     record {
-      sound = subst (λ (xs : List Node). Sound xs p.top p.free) (sym c.deref-mut.ensures.value) (to_sound p.nodes.items p.top p.free p.whole);
+      sound = subst (λ (xs : List Node). Sound xs p.top p.free) (sym c.deref_mut.ensures.value) (to_sound p.nodes.items p.top p.free p.whole);
       some = omega (arith, c.if-count-eq0.false);
       room = c.if-count-free.false;
     }
 
-pub invariant-of-self : goal.invariant-of-self
-invariant-of-self c =
+pub invariant_of-self : goal.invariant_of-self
+invariant_of-self c =
     let p = c.args.self.now in
     let ms = c.build-self.new.nodes in
-    let f = p.free - (length c.args.tokens.now + 1) in (
-      subst (λ (xs : List Node). Whole xs c.build-self.result f) (sym (with_items_is p.nodes ms (omega arith)))
-          (to_whole ms c.build-self.result f c.build-self.ensures.sound),
-      tt,
-    )
+    let f = p.free - (length c.args.tokens.now + 1) in record {
+      whole = subst (λ (xs : List Node). Whole xs c.build-self.result f) (sym (with_items_is p.nodes ms (omega arith)))
+          (to_whole ms c.build-self.result f c.build-self.ensures.sound);
+    }
 
 pub returns : goal.returns
 unfolding pool_of
@@ -46,7 +45,7 @@ returns c =
     let p = c.args.self.now in
     let ts = c.args.tokens.now in
     let ms = c.build-self.new.nodes in
-    let v = c.deref-mut.ensures.value in
+    let v = c.deref_mut.ensures.value in
     let f = pool_free p.nodes.items p.free in (
       omega (arith, c.if-count-eq0.false),
       ap (λ (xs : List Node). there (nodes_pool xs p.free) p.top) (sym v) ∙ c.build-self.ensures.absent,

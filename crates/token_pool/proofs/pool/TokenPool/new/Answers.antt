@@ -9,17 +9,16 @@ use Rattle.token_pool.proofs.Models.{model_empty}
 use Rattle.token_pool.proofs.Whole.{to_whole}
 use Rattle.token_pool.proofs.pool.TokenPool.new.Goals as goal
 
-pub invariant-of-result : goal.invariant-of-result
-invariant-of-result c =
+pub invariant_of-result : goal.invariant_of-result
+invariant_of-result c =
     let ms = c.clear-top.new.nodes in
     let top = c.clear-top.result in
     let free = c.len-free.result in
     let l : length ms ≡ free = omega arith in
-    let q = clear_all ms top (omega arith) c.clear-top.ensures.chain c.clear-top.ensures.owners in (
-      subst (λ (xs : List Node). Whole xs top free) (sym (with_items_is c.truncate.new.self ms (omega arith)))
-          (to_whole ms top free (subst (λ (x : ℕ). Sound ms top x) l q.0)),
-      tt,
-    )
+    let q = clear_all ms top (omega arith) c.clear-top.ensures.chain c.clear-top.ensures.owners in record {
+      whole = subst (λ (xs : List Node). Whole xs top free) (sym (with_items_is c.truncate.new.self ms (omega arith)))
+          (to_whole ms top free (subst (λ (x : ℕ). Sound ms top x) l q.0));
+    }
 
 pub returns : goal.returns
 unfolding pool_of

@@ -6,23 +6,22 @@ use Rattle.token_pool.specs.Meanings.{pool_of}
 use Rattle.token_pool.proofs.Whole.{to_sound, to_whole}
 use Rattle.token_pool.proofs.pool.TokenPool.take_use.Goals as goal
 
-pub invariant-of-self : goal.invariant-of-self
-invariant-of-self c =
+pub invariant_of-self : goal.invariant_of-self
+invariant_of-self c =
     let p = c.args.self.now in
-    let ms = c.take-use.new.nodes in
-    let v = c.deref-mut.ensures.value in
-    let s = subst (λ (xs : List Node). Sound xs p.top p.free) (sym v) (to_sound p.nodes.items p.top p.free p.whole) in (
-      subst (λ (xs : List Node). Whole xs p.top p.free) (sym (with_items_is p.nodes ms (omega arith)))
-          (to_whole ms p.top p.free (c.take-use.ensures p.top p.free s).sound),
-      tt,
-    )
+    let ms = c.take_use.new.nodes in
+    let v = c.deref_mut.ensures.value in
+    let s = subst (λ (xs : List Node). Sound xs p.top p.free) (sym v) (to_sound p.nodes.items p.top p.free p.whole) in record {
+      whole = subst (λ (xs : List Node). Whole xs p.top p.free) (sym (with_items_is p.nodes ms (omega arith)))
+          (to_whole ms p.top p.free (c.take_use.ensures p.top p.free s).sound);
+    }
 
 pub returns : goal.returns
 unfolding pool_of
 returns c =
     let p = c.args.self.now in
-    let ms = c.take-use.new.nodes in
-    let v = c.deref-mut.ensures.value in
+    let ms = c.take_use.new.nodes in
+    let v = c.deref_mut.ensures.value in
     let s = subst (λ (xs : List Node). Sound xs p.top p.free) (sym v) (to_sound p.nodes.items p.top p.free p.whole) in
-    let t = subst (λ (xs : List Node). Taken xs ms c.args.list c.take-use.result p.top p.free) v (c.take-use.ensures p.top p.free s) in
+    let t = subst (λ (xs : List Node). Taken xs ms c.args.list c.take_use.result p.top p.free) v (c.take_use.ensures p.top p.free s) in
     record { result = t.result; after = ap (λ (xs : List Node). nodes_pool xs p.free) (with_items_is p.nodes ms (omega arith)) ∙ t.after }

@@ -9,4 +9,4 @@ returns c =
     let z = c.args.self.now.number in
     let f : SFits w32 z = search rules in
     let s = simp to_z-of_z at c.signed-whole.ensures in
-    printed (ends (signed_some z (omega (arith, ints))) (begun c.write-name.ensures) s)
+    printed (ends (signed_some z (omega (arith, ints))) (begun c.write_name.ensures) s)
