@@ -1,6 +1,6 @@
 -- What an answer tells of the causes to refuse.
 use Rattle.std.proofs.Common.{◌≡◌, ℕ, Bool, true, false, cond, not, ◌&&◌, ltb, leb, List, [], ◌∷◌, Some, None, Ok, Err, Option, Result, sym, refl, ap, ◌∙◌, arith}
-use Rattle.std.proofs.lemmas.Bool.{leb-true, ltb-true, not_false}
+use Rattle.std.proofs.lemmas.Bool.{leb-true, ltb-true, not-false}
 use Rattle.values.specs.Ops.{Ops}
 use Rattle.values.specs.Readings.{tokens}
 use Rattle.stores.specs.Stores.{StoreModel}
@@ -70,6 +70,6 @@ remade k global s m n at e q p b ts v f h =
 -- nodes that suffice are not too few
 pub enough : (free cost : ℕ) (b : Bool) → b ≡ leb cost free → not b ≡ false → ltb free cost ≡ true → ⊥
 enough free cost b e h l =
-    let c = leb-true cost free (sym e ∙ not_false b h) in
+    let c = leb-true cost free (sym e ∙ not-false b h) in
     let d = ltb-true free cost l in
     omega arith

@@ -1,7 +1,7 @@
 -- The mixed value shows what a kind of value shows.
 use Rattle.std.specs.Prelude.{◌≡◌, ℕ, ◌+◌, ◌/◌, ◌<◌, ◌≤◌, Bool, true, false, cond, not, ◌&&◌, List, [], ◌∷◌, ◌++◌, length, ℤ, pos, negsuc, ◌==◌, nat_le, nat_lt, unsigned_abs, refl}
 use Rattle.std.proofs.Common.{sym, ◌∙◌, ap, arith}
-use Rattle.std.proofs.lemmas.Bool.{eqb-true, eqb-false, eq-eqb, ne_eqb, not_true, not_from_false, and_parts, and_from, cond_both, cond-true}
+use Rattle.std.proofs.lemmas.Bool.{eqb-true, eqb-false, eq-eqb, ne_eqb, not-true, not_from_false, and_parts, and_from, cond_both, cond-true}
 use Rattle.tokens.specs.Limits.{top_reach, top_uses, top_number, top_dimension}
 use Rattle.tokens.specs.declared.class.Class.{Class}
 use Rattle.tokens.specs.declared.class.Class.TheVariants.{Count, Dimen, Toks}
@@ -50,7 +50,7 @@ toks_test false false e = cc
 
 -- a register has no free slot, and one of counts has slot 0
 kept : (p : ℕ) → (nat_lt p top_reach && not (slot p == 2)) ≡ true → (slot p == 2) ≡ false
-kept p h = not_true (slot p == 2) (and_parts (nat_lt p top_reach) (not (slot p == 2)) h).1
+kept p h = not-true (slot p == 2) (and_parts (nat_lt p top_reach) (not (slot p == 2)) h).1
 
 count_slot : (p : ℕ) → (slot p == 2) ≡ false → class_in (slot p) ≡ Count → (slot p == 0) ≡ true
 count_slot p k e =

@@ -3,4 +3,4 @@ use Rattle.laws.proofs.RefusalLaws.{refusal_laws}
 use Rattle.laws.proofs.refusal_laws.Goals as goal
 
 pub returns : goal.returns
-returns g c = refusal_laws g.row.V-Value.ops
+returns g c = refusal_laws g.V.Value.ops

@@ -5,6 +5,6 @@ use Rattle.laws.proofs.Laws.{law}
 use Rattle.laws.proofs.scopes_and_counts.Goals as goal
 
 pub returns : goal.returns
-returns g c = law g.row.V-Value.ops g.met.V.Value.lawful
-    (table_of (g.S.Store.model c.args.store.now) (g.row.V-Value.meaning c.args.pool.now) c.args.nesting
+returns g c = law g.V.Value.ops g.met.V.Value.lawful
+    (table_of (g.S.Store.model c.args.store.now) (g.V.Value.meaning c.args.pool.now) c.args.nesting
     (stack_of c.args.saves.now) (stack_of c.args.pending.now))

@@ -3,4 +3,4 @@ use Rattle.laws.proofs.StoreLaws.{store_laws}
 use Rattle.laws.proofs.store_laws.Goals as goal
 
 pub returns : goal.returns
-returns g c = store_laws g.row.V-Value.ops.is_zero (g.S.Store.model c.args.store.now)
+returns g c = store_laws g.V.Value.ops.is_zero (g.S.Store.model c.args.store.now)

@@ -10,8 +10,8 @@ use Rattle.engine.proofs.assign.assign.Goals as goal
 
 pub returns-in-err-old : goal.returns-in-err-old
 returns-in-err-old g c =
-    let k = g.row.V-Value.ops in
-    let m = g.row.V-Value.meaning c.args.pool.now in
+    let k = g.V.Value.ops in
+    let m = g.V.Value.meaning c.args.pool.now in
     let t = λ (q : StackModel ℕ). table_of (g.S.Store.model c.args.store.now) m c.args.nesting (stack_of c.args.saves.now) q in
     let v = given c.args.value in
     let x = err_from_is_err_and c.from-residual.result c.from-residual.ensures.1 in
@@ -20,8 +20,8 @@ returns-in-err-old g c =
 
 pub returns : goal.returns
 returns g c =
-    let k = g.row.V-Value.ops in
-    let m = g.row.V-Value.meaning c.args.pool.now in
+    let k = g.V.Value.ops in
+    let m = g.V.Value.meaning c.args.pool.now in
     let s = g.S.Store.model c.args.store.now in
     let t = λ (q : StackModel ℕ). table_of s m c.args.nesting (stack_of c.args.saves.now) q in
     let v = given c.args.value in

@@ -13,8 +13,8 @@ use Rattle.engine.proofs.assign.assign_list.Goals as goal
 
 pub returns-in-err-old : goal.returns-in-err-old
 returns-in-err-old g c =
-    let k = g.row.V-Value.ops in
-    let m = g.row.V-Value.meaning c.args.pool.now in
+    let k = g.V.Value.ops in
+    let m = g.V.Value.meaning c.args.pool.now in
     let t = λ (q : StackModel ℕ). table_of (g.S.Store.model c.args.store.now) m c.args.nesting (stack_of c.args.saves.now) q in
     let v = λ (b : ℕ). fresh c.args.list.now b in
     let x = err_from_is_err_and c.from-residual.result c.from-residual.ensures.1 in
@@ -23,8 +23,8 @@ returns-in-err-old g c =
 
 pub returns-in-default : goal.returns-in-default
 returns-in-default g c =
-    let k = g.row.V-Value.ops in
-    let m = g.row.V-Value.meaning c.args.pool.now in
+    let k = g.V.Value.ops in
+    let m = g.V.Value.meaning c.args.pool.now in
     let s = g.S.Store.model c.args.store.now in
     let d = c.of-list-demand.result in
     let q : StackModel ℕ = record { held = []; room = 0 } in
@@ -35,8 +35,8 @@ returns-in-default g c =
 
 pub returns : goal.returns
 returns g c =
-    let k = g.row.V-Value.ops in
-    let m = g.row.V-Value.meaning c.args.pool.now in
+    let k = g.V.Value.ops in
+    let m = g.V.Value.meaning c.args.pool.now in
     let s = g.S.Store.model c.args.store.now in
     let e = stack_of c.args.saves.now in
     let n = c.args.nesting in
@@ -50,7 +50,7 @@ returns g c =
     assign_done k gl (table_of s m n e q) p (fresh ts b) n d (c.of-list-demand.ensures b) new (a q).2 is in
     let new : chosen k (fresh ts w.at) m ≡ true = ap not w.absent in
     let done = λ (q : StackModel ℕ). c.put-in.ensures (a q).0 q
-    ∙ remade k gl s m (g.row.V-Value.meaning c.make-list.new.pool) n e q p w.at ts c.in-Some.value w.value w.pool in
+    ∙ remade k gl s m (g.V.Value.meaning c.make-list.new.pool) n e q p w.at ts c.in-Some.value w.value w.pool in
     record {
       answer = λ b q. (r w.at q _ new (done q)).0;
       table = (w.at, λ _. w.absent, λ q. (r w.at q _ new (done q)).1);

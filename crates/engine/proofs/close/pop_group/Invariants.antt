@@ -9,10 +9,10 @@ use Rattle.engine.proofs.close.pop_group.Given as goal
 
 abbrev pub invariant-loop-entry : goal.invariant-loop-entry
 invariant-loop-entry g l =
-    (pops g.row.V-Value.ops l.keep (stack_of l.saves).held (table_of (g.S.Store.model l.store) (g.row.V-Value.meaning l.pool) l.nesting (stack_of l.saves) (stack_of l.pending))
-    ≡ pops g.row.V-Value.ops l.keep (stack_of l.initial.saves).held (table_of (g.S.Store.model l.initial.store) (g.row.V-Value.meaning l.initial.pool) l.initial.nesting (stack_of l.initial.saves) (stack_of l.initial.pending)))
-    × (told (out_of l.writer l.out) (pop_lines g.row.V-Value.ops l.keep (stack_of l.saves).held (table_of (g.S.Store.model l.store) (g.row.V-Value.meaning l.pool) l.nesting (stack_of l.saves) (stack_of l.pending)))
-    ≡ told (out_of l.initial.writer l.initial.out) (pop_lines g.row.V-Value.ops l.keep (stack_of l.initial.saves).held (table_of (g.S.Store.model l.initial.store) (g.row.V-Value.meaning l.initial.pool) l.initial.nesting (stack_of l.initial.saves) (stack_of l.initial.pending))))
+    (pops g.V.Value.ops l.keep (stack_of l.saves).held (table_of (g.S.Store.model l.store) (g.V.Value.meaning l.pool) l.nesting (stack_of l.saves) (stack_of l.pending))
+    ≡ pops g.V.Value.ops l.keep (stack_of l.initial.saves).held (table_of (g.S.Store.model l.initial.store) (g.V.Value.meaning l.initial.pool) l.initial.nesting (stack_of l.initial.saves) (stack_of l.initial.pending)))
+    × (told (out_of l.writer l.out) (pop_lines g.V.Value.ops l.keep (stack_of l.saves).held (table_of (g.S.Store.model l.store) (g.V.Value.meaning l.pool) l.nesting (stack_of l.saves) (stack_of l.pending)))
+    ≡ told (out_of l.initial.writer l.initial.out) (pop_lines g.V.Value.ops l.keep (stack_of l.initial.saves).held (table_of (g.S.Store.model l.initial.store) (g.V.Value.meaning l.initial.pool) l.initial.nesting (stack_of l.initial.saves) (stack_of l.initial.pending))))
 
 abbrev pub decreases-loop-entry : goal.decreases-loop-entry
 decreases-loop-entry g l = length (stack_of l.saves).held

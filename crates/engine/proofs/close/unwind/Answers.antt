@@ -12,17 +12,17 @@ pub loop-nesting-smaller : goal.loop-nesting-smaller
 loop-nesting-smaller g c =
     let v = c.loop-nesting in
     let w = c.pop-group.new in
-    let t = table_of (g.S.Store.model v.store) (g.row.V-Value.meaning v.pool) v.nesting (stack_of v.saves) (stack_of v.pending) in
-    let u = table_of (g.S.Store.model w.store) (g.row.V-Value.meaning w.pool) w.nesting (stack_of w.saves) (stack_of w.pending) in
-    level_falls g.row.V-Value.ops t u c.args.level (omega arith) (omega arith) c.pop-group.ensures.table
+    let t = table_of (g.S.Store.model v.store) (g.V.Value.meaning v.pool) v.nesting (stack_of v.saves) (stack_of v.pending) in
+    let u = table_of (g.S.Store.model w.store) (g.V.Value.meaning w.pool) w.nesting (stack_of w.saves) (stack_of w.pending) in
+    level_falls g.V.Value.ops t u c.args.level (omega arith) (omega arith) c.pop-group.ensures.table
 
 pub loop-nesting-preserved : goal.loop-nesting-preserved
 loop-nesting-preserved g c =
-    let k = g.row.V-Value.ops in
+    let k = g.V.Value.ops in
     let v = c.loop-nesting in
     let w = c.pop-group.new in
-    let t = table_of (g.S.Store.model v.store) (g.row.V-Value.meaning v.pool) v.nesting (stack_of v.saves) (stack_of v.pending) in
-    let u = table_of (g.S.Store.model w.store) (g.row.V-Value.meaning w.pool) w.nesting (stack_of w.saves) (stack_of w.pending) in
+    let t = table_of (g.S.Store.model v.store) (g.V.Value.meaning v.pool) v.nesting (stack_of v.saves) (stack_of v.pending) in
+    let u = table_of (g.S.Store.model w.store) (g.V.Value.meaning w.pool) w.nesting (stack_of w.saves) (stack_of w.pending) in
     let l = c.args.level in
     let h : 1 < t.level = omega arith in
     let i : l ≤ t.level = omega arith in

@@ -10,16 +10,16 @@ pub returns-in-default-cell : goal.returns-in-default-cell
 returns-in-default-cell g c =
     let s = g.S.Store.model c.args.store.now in
     let p = c.loop-place.from in
-    let f = found g.row.V-Value.ops s (g.row.V-Value.meaning c.args.pool.now) (s.reach - p) p c.in-Some.place c.in-Some.ensures.value in
+    let f = found g.V.Value.ops s (g.V.Value.meaning c.args.pool.now) (s.reach - p) p c.in-Some.place c.in-Some.ensures.value in
     let l = f.low in
     let h = f.high in
     absurd (told_none s c.in-Some.place c.in-default-cell.ensures (omega arith))
 
 pub returns-then-not-listed : goal.returns-then-not-listed
 returns-then-not-listed g c =
-    let k = g.row.V-Value.ops in
+    let k = g.V.Value.ops in
     let s = g.S.Store.model c.args.store.now in
-    let m = g.row.V-Value.meaning c.args.pool.now in
+    let m = g.V.Value.meaning c.args.pool.now in
     let p = c.loop-place.from in
     let q = c.in-Some.place in
     let o = out_of c.loop-place.writer c.loop-place.out in
@@ -39,16 +39,16 @@ pub loop-place-smaller : goal.loop-place-smaller
 loop-place-smaller g c =
     let s = g.S.Store.model c.args.store.now in
     let p = c.loop-place.from in
-    let f = found g.row.V-Value.ops s (g.row.V-Value.meaning c.args.pool.now) (s.reach - p) p c.in-Some.place c.in-Some.ensures.value in
+    let f = found g.V.Value.ops s (g.V.Value.meaning c.args.pool.now) (s.reach - p) p c.in-Some.place c.in-Some.ensures.value in
     let l = f.low in
     let n = c.in-Some.ensures.near in
     omega arith
 
 pub loop-place-preserved : goal.loop-place-preserved
 loop-place-preserved g c =
-    let k = g.row.V-Value.ops in
+    let k = g.V.Value.ops in
     let s = g.S.Store.model c.args.store.now in
-    let m = g.row.V-Value.meaning c.args.pool.now in
+    let m = g.V.Value.meaning c.args.pool.now in
     let p = c.loop-place.from in
     let q = c.in-Some.place in
     let o = out_of c.loop-place.writer c.loop-place.out in
@@ -69,9 +69,9 @@ loop-place-preserved g c =
 
 pub returns : goal.returns
 returns g c =
-    let k = g.row.V-Value.ops in
+    let k = g.V.Value.ops in
     let s = g.S.Store.model c.args.store.now in
-    let m = g.row.V-Value.meaning c.args.pool.now in
+    let m = g.V.Value.meaning c.args.pool.now in
     let p = c.loop-place.from in
     let o = out_of c.loop-place.writer c.loop-place.out in
     let e = absent k s m (s.reach - p) p c.in-default.ensures.value in

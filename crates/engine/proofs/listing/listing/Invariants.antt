@@ -7,10 +7,10 @@ use Rattle.engine.proofs.listing.listing.Given as goal
 abbrev pub invariant-loop-place : goal.invariant-loop-place
 invariant-loop-place g l =
     (l.from ≤ top_reach)
-    × (listed_to (out_of l.writer l.out) (lines_from g.row.V-Value.ops (g.S.Store.model l.store) (g.row.V-Value.meaning l.pool) l.from ((g.S.Store.model l.store).reach - l.from))
-    ≡ listed_to (out_of l.initial.writer l.initial.out) (lines_from g.row.V-Value.ops (g.S.Store.model l.store) (g.row.V-Value.meaning l.pool) 0 (g.S.Store.model l.store).reach))
-    × (all_stand (out_of l.writer l.out) (lines_from g.row.V-Value.ops (g.S.Store.model l.store) (g.row.V-Value.meaning l.pool) l.from ((g.S.Store.model l.store).reach - l.from))
-    ≡ all_stand (out_of l.initial.writer l.initial.out) (lines_from g.row.V-Value.ops (g.S.Store.model l.store) (g.row.V-Value.meaning l.pool) 0 (g.S.Store.model l.store).reach))
+    × (listed_to (out_of l.writer l.out) (lines_from g.V.Value.ops (g.S.Store.model l.store) (g.V.Value.meaning l.pool) l.from ((g.S.Store.model l.store).reach - l.from))
+    ≡ listed_to (out_of l.initial.writer l.initial.out) (lines_from g.V.Value.ops (g.S.Store.model l.store) (g.V.Value.meaning l.pool) 0 (g.S.Store.model l.store).reach))
+    × (all_stand (out_of l.writer l.out) (lines_from g.V.Value.ops (g.S.Store.model l.store) (g.V.Value.meaning l.pool) l.from ((g.S.Store.model l.store).reach - l.from))
+    ≡ all_stand (out_of l.initial.writer l.initial.out) (lines_from g.V.Value.ops (g.S.Store.model l.store) (g.V.Value.meaning l.pool) 0 (g.S.Store.model l.store).reach))
 
 abbrev pub decreases-loop-place : goal.decreases-loop-place
 decreases-loop-place g l = top_reach - l.from

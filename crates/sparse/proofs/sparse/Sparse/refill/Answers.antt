@@ -7,29 +7,29 @@ use Rattle.sparse.proofs.sparse.Sparse.refill.Goals as goal
 pub overflow-sub-self : goal.overflow-sub-self
 overflow-sub-self g c =
     let s = c.args.self.now in
-    some_left g.row.V-Value.ops g.met.V.Value.lawful s.nodes.reach s.spare c.args.place (held s.nodes) c.args.cell c.args.old c.requires.old
+    some_left g.V.Value.ops g.met.V.Value.lawful s.nodes.reach s.spare c.args.place (held s.nodes) c.args.cell c.args.old c.requires.old
     c.if-was-blank.ensures c.requires.room c.if-is-blank.ensures
 
 pub returns-then-not-was-blank : goal.returns-then-not-was-blank
 returns-then-not-was-blank g c =
     let s = c.args.self.now in
-    blanked g.row.V-Value.ops g.met.V.Value.lawful s.nodes.reach s.spare c.args.place (held s.nodes) c.args.cell _ _ _ c.args.old false
+    blanked g.V.Value.ops g.met.V.Value.lawful s.nodes.reach s.spare c.args.place (held s.nodes) c.args.cell _ _ _ c.args.old false
     (held_asc s.nodes) c.requires.old c.if-not-was-blank.ensures c.if-is-blank.ensures c.take.ensures.reach c.take.ensures.list refl
 
 pub returns-else-not-was-blank : goal.returns-else-not-was-blank
 returns-else-not-was-blank g c =
     let s = c.args.self.now in
-    blanked g.row.V-Value.ops g.met.V.Value.lawful s.nodes.reach s.spare c.args.place (held s.nodes) c.args.cell _ _ _ c.args.old true
+    blanked g.V.Value.ops g.met.V.Value.lawful s.nodes.reach s.spare c.args.place (held s.nodes) c.args.cell _ _ _ c.args.old true
     (held_asc s.nodes) c.requires.old c.if-not-was-blank.ensures c.if-is-blank.ensures c.take.ensures.reach c.take.ensures.list refl
 
 pub returns-then-was-blank : goal.returns-then-was-blank
 returns-then-was-blank g c =
     let s = c.args.self.now in
-    refilled g.row.V-Value.ops g.met.V.Value.lawful s.nodes.reach s.spare c.args.place (held s.nodes) c.args.cell _ _ _ c.args.old true
+    refilled g.V.Value.ops g.met.V.Value.lawful s.nodes.reach s.spare c.args.place (held s.nodes) c.args.cell _ _ _ c.args.old true
     c.requires.old c.if-was-blank.ensures c.if-is-blank.ensures c.set.ensures.reach c.set.ensures.list refl
 
 pub returns-else-was-blank : goal.returns-else-was-blank
 returns-else-was-blank g c =
     let s = c.args.self.now in
-    refilled g.row.V-Value.ops g.met.V.Value.lawful s.nodes.reach s.spare c.args.place (held s.nodes) c.args.cell _ _ _ c.args.old false
+    refilled g.V.Value.ops g.met.V.Value.lawful s.nodes.reach s.spare c.args.place (held s.nodes) c.args.cell _ _ _ c.args.old false
     c.requires.old c.if-was-blank.ensures c.if-is-blank.ensures c.set.ensures.reach c.set.ensures.list refl

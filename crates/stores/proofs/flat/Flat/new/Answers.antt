@@ -15,4 +15,4 @@ loop-cell-preserved g c =
 
 pub returns : goal.returns
 returns g c =
-    row_blank g.row.V-Value.ops _ c.loop-cell.cells g.met.V.Value.lawful.zero_is (omega arith) (λ q h. c.loop-cell.invariant q (omega arith))
+    row_blank g.V.Value.ops _ c.loop-cell.cells g.met.V.Value.lawful.zero_is (omega arith) (λ q h. c.loop-cell.invariant q (omega arith))

@@ -3,4 +3,4 @@ use Rattle.stores.specs.Cells.{cell}
 use Rattle.stores.proofs.flat.Flat.new.Given as goal
 
 abbrev pub invariant-loop-cell : goal.invariant-loop-cell
-invariant-loop-cell g l = (q : ℕ) → q < l.cell-index → get_or l.cells q (cell g.row.V-Value.ops.zero 1) ≡ cell g.row.V-Value.ops.zero 1
+invariant-loop-cell g l = (q : ℕ) → q < l.cell-index → get_or l.cells q (cell g.V.Value.ops.zero 1) ≡ cell g.V.Value.ops.zero 1

@@ -4,21 +4,21 @@ use Rattle.stores.specs.Cells.{is_blank}
 use Rattle.stores.specs.Flats.{count}
 use Rattle.stores.proofs.Rows.{count_turn}
 use Rattle.stores.proofs.flat.ops.count_blanks.Goals as goal
-use Rattle.stores.proofs.flat.ops.count_blanks.Goals.{then-is-blank, else-is-blank}
+use Rattle.stores.proofs.flat.ops.count_blanks.Goals.{then-is_blank, else-is_blank}
 
 pub loop-c-preserved : goal.loop-c-preserved
 loop-c-preserved g c =
-    let turn = count_turn (is_blank g.row.V-Value.ops.is_zero) c.args.cells.now c.loop-c.c-index c.c-item.result in
+    let turn = count_turn (is_blank g.V.Value.ops.is_zero) c.args.cells.now c.loop-c.c-index c.c-item.result in
     elim c.if-is_blank.branch [
-      | then-is-blank w ↦
+      | then-is_blank w ↦
           let step = turn true c.loop-c-test.true c.c-item.is w.if-is_blank.ensures in
           (omega arith, omega arith)
-      | else-is-blank w ↦
+      | else-is_blank w ↦
           let step = turn false c.loop-c-test.true c.c-item.is w.if-is_blank.ensures in
           (omega arith, omega arith)
     ]
 
 pub returns : goal.returns
 returns g c =
-    let none = at_drop_all (count (is_blank g.row.V-Value.ops.is_zero)) c.args.cells.now c.loop-c.c-index c.loop-c-test.false in
+    let none = at_drop_all (count (is_blank g.V.Value.ops.is_zero)) c.args.cells.now c.loop-c.c-index c.loop-c-test.false in
     omega arith

@@ -9,24 +9,24 @@ returns-then-not-is-blank g c =
     let xs = held s.nodes in
     let x = c.in-Some.node in
     let h = sym c.in-Some.ensures in
-    let n = next_near g.row.V-Value.ops g.met.V.Value.lawful s.nodes.reach s.spare c.loop-node.at xs (held_asc s.nodes) x h in
+    let n = next_near g.V.Value.ops g.met.V.Value.lawful s.nodes.reach s.spare c.loop-node.at xs (held_asc s.nodes) x h in
     let r = s.nodes.near in
     record {
-      value = next_here g.row.V-Value.ops g.met.V.Value.lawful s.nodes.reach s.spare c.loop-node.at xs (held_asc s.nodes) x h c.if-not-is-blank.ensures ∙ c.loop-node.invariant.1;
+      value = next_here g.V.Value.ops g.met.V.Value.lawful s.nodes.reach s.spare c.loop-node.at xs (held_asc s.nodes) x h c.if-not-is-blank.ensures ∙ c.loop-node.invariant.1;
       near = omega arith;
     }
 
 pub overflow-add-at : goal.overflow-add-at
 overflow-add-at g c =
     let s = c.args.self.now in
-    let n = next_near g.row.V-Value.ops g.met.V.Value.lawful s.nodes.reach s.spare c.loop-node.at (held s.nodes) (held_asc s.nodes) c.in-Some.node (sym c.in-Some.ensures) in
+    let n = next_near g.V.Value.ops g.met.V.Value.lawful s.nodes.reach s.spare c.loop-node.at (held s.nodes) (held_asc s.nodes) c.in-Some.node (sym c.in-Some.ensures) in
     let r = s.nodes.near in
     omega arith
 
 pub loop-node-smaller : goal.loop-node-smaller
 loop-node-smaller g c =
     let s = c.args.self.now in
-    let n = next_near g.row.V-Value.ops g.met.V.Value.lawful s.nodes.reach s.spare c.loop-node.at (held s.nodes) (held_asc s.nodes) c.in-Some.node (sym c.in-Some.ensures) in
+    let n = next_near g.V.Value.ops g.met.V.Value.lawful s.nodes.reach s.spare c.loop-node.at (held s.nodes) (held_asc s.nodes) c.in-Some.node (sym c.in-Some.ensures) in
     omega arith
 
 pub loop-node-preserved : goal.loop-node-preserved
@@ -35,16 +35,16 @@ loop-node-preserved g c =
     let xs = held s.nodes in
     let x = c.in-Some.node in
     let h = sym c.in-Some.ensures in
-    let n = next_near g.row.V-Value.ops g.met.V.Value.lawful s.nodes.reach s.spare c.loop-node.at xs (held_asc s.nodes) x h in
+    let n = next_near g.V.Value.ops g.met.V.Value.lawful s.nodes.reach s.spare c.loop-node.at xs (held_asc s.nodes) x h in
     let r = s.nodes.near in (
       omega arith,
-      next_on g.row.V-Value.ops g.met.V.Value.lawful s.nodes.reach s.spare c.loop-node.at xs (held_asc s.nodes) x h c.if-not-is-blank.ensures ∙ c.loop-node.invariant.1,
+      next_on g.V.Value.ops g.met.V.Value.lawful s.nodes.reach s.spare c.loop-node.at xs (held_asc s.nodes) x h c.if-not-is-blank.ensures ∙ c.loop-node.invariant.1,
     )
 
 pub returns : goal.returns
 returns g c =
     let s = c.args.self.now in
     record {
-      value = sym (no_next g.row.V-Value.ops g.met.V.Value.lawful s.nodes.reach s.spare c.loop-node.at (held s.nodes) (held_asc s.nodes) (sym c.in-default.ensures)) ∙ c.loop-node.invariant.1;
+      value = sym (no_next g.V.Value.ops g.met.V.Value.lawful s.nodes.reach s.spare c.loop-node.at (held s.nodes) (held_asc s.nodes) (sym c.in-default.ensures)) ∙ c.loop-node.invariant.1;
       near = tt;
     }

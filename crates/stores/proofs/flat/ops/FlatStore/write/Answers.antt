@@ -4,7 +4,7 @@ use Rattle.stores.proofs.flat.ops.FlatStore.write.Goals as goal
 
 pub returns-then-place-self : goal.returns-then-place-self
 returns-then-place-self g c =
-    let k = g.row.V-Value.ops in
+    let k = g.V.Value.ops in
     let xs = c.args.self.now.cells.now in
     let h = c.if-place-self.true in
     record {
