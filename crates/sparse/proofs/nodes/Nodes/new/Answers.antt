@@ -7,23 +7,23 @@ use Rattle.sparse.specs.declared.node.Tip.{Tip}
 use Rattle.sparse.proofs.Chains.{bare}
 use Rattle.sparse.proofs.nodes.Nodes.new.Goals as goal
 
-pub invariant-of-result : goal.invariant-of-result
-invariant-of-result g c =
-    let ws = c.chain-up-free.new.tips in
+pub invariant_of-result : goal.invariant_of-result
+invariant_of-result g c =
+    let ws = c.chain_up-free.new.tips in
     let E = with_items_is c.truncate.new.self ws (omega arith) in
     let b = bare 18 ws c.min.result 4294967295 (omega arith) in
     let none = ap length b.0 in
     let n = c.truncate.ensures.len in
-    let k = c.deref-mut.ensures.len in
-    let all : length c.deref-mut.result.now ≡ c.len-loose.result = omega arith in
-    let ch = subst (λ (m : ℕ). chained m ws c.chain-up-free.result ≡ true) all c.chain-up-free.ensures in (
+    let k = c.deref_mut.ensures.len in
+    let all : length c.deref_mut.result.now ≡ c.len-loose.result = omega arith in
+    let ch = subst (λ (m : ℕ). chained m ws c.chain_up-free.result ≡ true) all c.chain_up-free.ensures in (
       omega arith,
       (
         omega arith,
         (
           subst (λ (xs : List (Tip _)). c.len-loose.result + length (listed 18 xs 4294967295) ≤ top_nodes) (sym E) (omega arith),
           (
-            subst (λ (xs : List (Tip _)). chained c.len-loose.result xs c.chain-up-free.result ≡ true) (sym E) ch,
+            subst (λ (xs : List (Tip _)). chained c.len-loose.result xs c.chain_up-free.result ≡ true) (sym E) ch,
             (subst (λ (xs : List (Tip _)). treed 18 xs 0 c.min.result 4294967295 ≡ true) (sym E) b.1, tt),
           ),
         ),
@@ -33,7 +33,7 @@ invariant-of-result g c =
 pub returns : goal.returns
 unfolding held
 returns g c =
-    let ws = c.chain-up-free.new.tips in
+    let ws = c.chain_up-free.new.tips in
     let E = with_items_is c.truncate.new.self ws (omega arith) in
     let b = bare 18 ws c.min.result 4294967295 (omega arith) in
     let n = c.truncate.ensures.len in

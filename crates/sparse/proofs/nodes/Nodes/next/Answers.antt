@@ -6,9 +6,9 @@ use Rattle.sparse.specs.Held.{held}
 use Rattle.sparse.proofs.Chains.{tree_from}
 use Rattle.sparse.proofs.nodes.Nodes.next.Goals as goal
 
-pub first-from-requires : goal.first-from-requires
+pub first_from-requires : goal.first_from-requires
 unfolding held
-first-from-requires g c =
+first_from-requires g c =
     let s = c.args.self.now in
     record { tree = subst (λ (xs : List (Tip _)). Tree 18 xs 0 s.reach s.root) (sym c.deref.ensures.value) (tree_from 18 s.tips.items 0 s.reach s.root s.tree); span = refl }
 
@@ -16,4 +16,4 @@ pub returns : goal.returns
 unfolding held
 returns g c =
     let s = c.args.self.now in
-    c.first-from.ensures ∙ ap (λ (xs : List (Tip _)). first_from c.args.place (listed 18 xs s.root)) c.deref.ensures.value
+    c.first_from.ensures ∙ ap (λ (xs : List (Tip _)). first_from c.args.place (listed 18 xs s.root)) c.deref.ensures.value

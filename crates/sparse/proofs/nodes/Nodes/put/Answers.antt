@@ -9,19 +9,19 @@ use Rattle.sparse.specs.Held.{held}
 use Rattle.sparse.proofs.Chains.{tree_from, tree_to, chain_from, chain_some, gave, fresh}
 use Rattle.sparse.proofs.nodes.Nodes.put.Goals as goal
 
-pub returns-in-default : goal.returns-in-default
+pub returns-in_default : goal.returns-in_default
 unfolding held
-returns-in-default g c =
+returns-in_default g c =
     let s = c.args.self.now in
-    absurd (chain_some s.loose s.tips.items s.free c.requires.loose (chain_from s.loose s.tips.items s.free s.chain) (sym c.in-default.ensures))
+    absurd (chain_some s.loose s.tips.items s.free c.requires.loose (chain_from s.loose s.tips.items s.free s.chain) (sym c.in_default.ensures))
 
 pub insert-new-requires : goal.insert-new-requires
 unfolding held
 insert-new-requires g c =
     let s = c.args.self.now in
     let ts = s.tips.items in
-    let v = c.deref-mut.ensures.value in
-    let n = c.deref-mut.ensures.len in
+    let v = c.deref_mut.ensures.value in
+    let n = c.deref_mut.ensures.len in
     let r = s.row in
     let sh = s.near in
     record {
@@ -35,12 +35,12 @@ insert-new-requires g c =
       free = subst (λ (xs : List (Tip _)). Above s.reach (slice_get xs s.free)) (sym v) (fresh ts s.free s.loose s.reach c.in-Some.top s.near c.requires.loose s.chain (sym c.in-Some.ensures));
     }
 
-pub invariant-of-self : goal.invariant-of-self
+pub invariant_of-self : goal.invariant_of-self
 unfolding held
-invariant-of-self g c =
+invariant_of-self g c =
     let s = c.args.self.now in
     let ts = s.tips.items in
-    let v = c.deref-mut.ensures.value in
+    let v = c.deref_mut.ensures.value in
     let ws = c.insert-new.new.tips in
     let y = c.insert-new.ensures in
     let E = with_items_is s.tips ws (omega arith) in
@@ -66,7 +66,7 @@ unfolding held
 returns g c =
     let s = c.args.self.now in
     let ts = s.tips.items in
-    let v = c.deref-mut.ensures.value in
+    let v = c.deref_mut.ensures.value in
     let ws = c.insert-new.new.tips in
     let y = c.insert-new.ensures in
     let E = with_items_is s.tips ws (omega arith) in

@@ -13,14 +13,14 @@ pub overwrite-requires : goal.overwrite-requires
 unfolding held
 overwrite-requires g c =
     let s = c.args.self.now in
-    record { tree = subst (λ (xs : List (Tip _)). Tree 18 xs 0 s.reach s.root) (sym c.deref-mut.ensures.value) (tree_from 18 s.tips.items 0 s.reach s.root s.tree); span = refl }
+    record { tree = subst (λ (xs : List (Tip _)). Tree 18 xs 0 s.reach s.root) (sym c.deref_mut.ensures.value) (tree_from 18 s.tips.items 0 s.reach s.root s.tree); span = refl }
 
-pub invariant-of-self : goal.invariant-of-self
+pub invariant_of-self : goal.invariant_of-self
 unfolding held
-invariant-of-self g c =
+invariant_of-self g c =
     let s = c.args.self.now in
     let ts = s.tips.items in
-    let v = c.deref-mut.ensures.value in
+    let v = c.deref_mut.ensures.value in
     let ws = c.overwrite.new.tips in
     let y = c.overwrite.ensures in
     let E = with_items_is s.tips ws (omega arith) in
@@ -44,7 +44,7 @@ pub returns : goal.returns
 unfolding held
 returns g c =
     let s = c.args.self.now in
-    let v = c.deref-mut.ensures.value in
+    let v = c.deref_mut.ensures.value in
     let ws = c.overwrite.new.tips in
     let y = c.overwrite.ensures in
     let E = with_items_is s.tips ws (omega arith) in

@@ -14,8 +14,8 @@ unfolding held
 remove-cut-requires g c =
     let s = c.args.self.now in
     let ts = s.tips.items in
-    let v = c.deref-mut.ensures.value in
-    let n = c.deref-mut.ensures.len in
+    let v = c.deref_mut.ensures.value in
+    let n = c.deref_mut.ensures.len in
     let r = s.row in
     record {
       tree = subst (λ (xs : List (Tip _)). Tree 18 xs 0 s.reach s.root) (sym v) (tree_from 18 ts 0 s.reach s.root s.tree);
@@ -24,12 +24,12 @@ remove-cut-requires g c =
       short = omega arith;
     }
 
-pub invariant-of-self : goal.invariant-of-self
+pub invariant_of-self : goal.invariant_of-self
 unfolding held
-invariant-of-self g c =
+invariant_of-self g c =
     let s = c.args.self.now in
     let ts = s.tips.items in
-    let v = c.deref-mut.ensures.value in
+    let v = c.deref_mut.ensures.value in
     let ws = c.remove-cut.new.tips in
     let y = c.remove-cut.ensures in
     let E = with_items_is s.tips ws (omega arith) in
@@ -55,7 +55,7 @@ unfolding held
 returns g c =
     let s = c.args.self.now in
     let ts = s.tips.items in
-    let v = c.deref-mut.ensures.value in
+    let v = c.deref_mut.ensures.value in
     let ws = c.remove-cut.new.tips in
     let y = c.remove-cut.ensures in
     let E = with_items_is s.tips ws (omega arith) in

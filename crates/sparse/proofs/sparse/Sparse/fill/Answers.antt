@@ -4,24 +4,24 @@ use Rattle.sparse.proofs.Looks.{absent_none}
 use Rattle.sparse.proofs.Writes.{none_left, filled, bared}
 use Rattle.sparse.proofs.sparse.Sparse.fill.Goals as goal
 
-pub overflow-sub-self : goal.overflow-sub-self
-overflow-sub-self g c =
+pub overflow_sub-self : goal.overflow_sub-self
+overflow_sub-self g c =
     let s = c.args.self.now in
-    none_left g.V.Value.ops g.met.V.Value.lawful s.nodes.reach s.spare c.args.place (held s.nodes) c.args.cell c.requires.none c.requires.room c.if-not-is-blank.ensures
+    none_left g.V.Value.ops g.met.V.Value.lawful s.nodes.reach s.spare c.args.place (held s.nodes) c.args.cell c.requires.none c.requires.room c.if-not-is_blank.ensures
 
 pub put-requires : goal.put-requires
 put-requires g c =
     let s = c.args.self.now in
-    let h = none_left g.V.Value.ops g.met.V.Value.lawful s.nodes.reach s.spare c.args.place (held s.nodes) c.args.cell c.requires.none c.requires.room c.if-not-is-blank.ensures in
+    let h = none_left g.V.Value.ops g.met.V.Value.lawful s.nodes.reach s.spare c.args.place (held s.nodes) c.args.cell c.requires.none c.requires.room c.if-not-is_blank.ensures in
     record { reach = c.requires.near; loose = omega arith; absent = absent_none c.args.place (held s.nodes) c.requires.none }
 
-pub returns-then-not-is-blank : goal.returns-then-not-is-blank
-returns-then-not-is-blank g c =
+pub returns-then-not-is_blank : goal.returns-then-not-is_blank
+returns-then-not-is_blank g c =
     let s = c.args.self.now in
     filled g.V.Value.ops g.met.V.Value.lawful s.nodes.reach s.spare c.args.place (held s.nodes) c.args.cell _ _ _
-    c.requires.none c.if-not-is-blank.ensures c.put.ensures.reach c.put.ensures.list refl
+    c.requires.none c.if-not-is_blank.ensures c.put.ensures.reach c.put.ensures.list refl
 
-pub returns-else-not-is-blank : goal.returns-else-not-is-blank
-returns-else-not-is-blank g c =
+pub returns-else-not-is_blank : goal.returns-else-not-is_blank
+returns-else-not-is_blank g c =
     let s = c.args.self.now in
-    bared g.V.Value.ops g.met.V.Value.lawful s.nodes.reach s.spare c.args.place (held s.nodes) c.args.cell c.requires.none c.if-not-is-blank.ensures
+    bared g.V.Value.ops g.met.V.Value.lawful s.nodes.reach s.spare c.args.place (held s.nodes) c.args.cell c.requires.none c.if-not-is_blank.ensures

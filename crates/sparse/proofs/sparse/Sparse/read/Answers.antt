@@ -11,4 +11,4 @@ returns-in-Some g c =
 pub returns : goal.returns
 returns g c =
     (λ i. cell (c.zero.ensures i) 1)
-    ∙ sym (look_none (cell g.V.Value.ops.zero 1) c.args.place (held c.args.self.now.nodes) (sym c.in-default.ensures))
+    ∙ sym (look_none (cell g.V.Value.ops.zero 1) c.args.place (held c.args.self.now.nodes) (sym c.in_default.ensures))
