@@ -8,18 +8,18 @@ use Rattle.sparse.proofs.Frames.{width_half}
 use Rattle.sparse.proofs.Grown.{Done, taken, asks, left_done, right_done, some_in, some_level, beyond_lt, beyond_less, tip}
 use Rattle.sparse.proofs.grow.+insert.Goals as goal
 
-pub place-at-requires : goal.place-at-requires
-place-at-requires g t c = beyond_lt c.args.tips.now c.args.end c.args.free c.requires.free
+pub place_at-requires : goal.place_at-requires
+place_at-requires g t c = beyond_lt c.args.tips.now c.args.end c.args.free c.requires.free
 
 pub returns-then-at-tips : goal.returns-then-at-tips
 returns-then-at-tips g t c =
     let ts = c.args.tips.now in
     let d = taken c.args.level ts c.args.at c.args.low c.args.end c.args.free 4294967295 c.args.node c.requires.low c.requires.end c.requires.fit c.if-at-tips.true (omega arith) c.requires.free in
-    let r = subst (λ (xs : List (Tip _)). Done c.args.level ts xs c.args.at c.args.free c.args.low c.args.end c.args.free c.args.node) (sym c.place-at.ensures) d in
+    let r = subst (λ (xs : List (Tip _)). Done c.args.level ts xs c.args.at c.args.free c.args.low c.args.end c.args.free c.args.node) (sym c.place_at.ensures) d in
     record { list = r.0; tree = r.1; frame = r.2 }
 
-pub overflow-add-next : goal.overflow-add-next
-overflow-add-next g t c =
+pub overflow_add-next : goal.overflow_add-next
+overflow_add-next g t c =
     let ss = c.settle-down.new.tips in
     let x = c.index-tips-at.result in
     let d = c.settle-down.result in
@@ -117,7 +117,7 @@ returns-then-down-middle g t c =
     (subst (λ (q : ℕ). d.place < q) emid c.if-down-middle.true) y.list (subst (λ (q : ℕ). Tree m us (x.node.place + 1) q r) emid y.tree)
     (λ j nf ap. y.frame j nf (subst (λ (q : ℕ). Apart (x.node.place + 1) q (slice_get ss j)) (sym emid) ap)) in
     let back = subst (λ (n : ℕ). Done n ts (set us at (tip x.node r x.right)) at at a b c.args.free c.args.node) (sym e) done in
-    let last = subst (λ (xs : List (Tip _)). Done c.args.level ts xs at at a b c.args.free c.args.node) (sym c.place-at-then-down-middle.ensures) back in
+    let last = subst (λ (xs : List (Tip _)). Done c.args.level ts xs at at a b c.args.free c.args.node) (sym c.place_at-then-down-middle.ensures) back in
     record { list = last.0; tree = last.1; frame = last.2 }
 
 pub returns-else-down-middle : goal.returns-else-down-middle
@@ -151,5 +151,5 @@ returns-else-down-middle g t c =
     (subst (λ (q : ℕ). q ≤ d.place) emid c.if-down-middle.false) y.list (subst (λ (q : ℕ). Tree m us q b r) emax y.tree)
     (λ j nf ap. y.frame j nf (subst (λ (q : ℕ). Apart q b (slice_get ss j)) (sym emax) ap)) in
     let back = subst (λ (n : ℕ). Done n ts (set us at (tip x.node x.left r)) at at a b c.args.free c.args.node) (sym e) done in
-    let last = subst (λ (xs : List (Tip _)). Done c.args.level ts xs at at a b c.args.free c.args.node) (sym c.place-at-else-down-middle.ensures) back in
+    let last = subst (λ (xs : List (Tip _)). Done c.args.level ts xs at at a b c.args.free c.args.node) (sym c.place_at-else-down-middle.ensures) back in
     record { list = last.0; tree = last.1; frame = last.2 }

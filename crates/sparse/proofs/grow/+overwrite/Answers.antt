@@ -7,28 +7,28 @@ use Rattle.sparse.proofs.Finds.{downs}
 use Rattle.sparse.proofs.Overs.{Over, at_node, at_left, at_right}
 use Rattle.sparse.proofs.grow.+overwrite.Goals as goal
 
-pub returns-in-default : goal.returns-in-default
-returns-in-default g t c =
-    let none = listed_none c.args.level c.args.tips.now c.args.at (sym c.in-default.ensures) in
+pub returns-in_default : goal.returns-in_default
+returns-in_default g t c =
+    let none = listed_none c.args.level c.args.tips.now c.args.at (sym c.in_default.ensures) in
     record { list = none ∙ sym (ap (over c.args.place c.args.cell) none); tree = c.requires.tree; frame = λ j h. refl }
 
-pub overflow-add-next : goal.overflow-add-next
-overflow-add-next g t c =
+pub overflow_add-next : goal.overflow_add-next
+overflow_add-next g t c =
     let d = downs c.args.level c.args.span c.args.tips.now c.args.at c.args.low c.args.end c.in-Some.here (sym c.in-Some.ensures) c.requires.tree c.requires.span in
     omega arith
 
-pub place-at-requires : goal.place-at-requires
-place-at-requires g t c =
+pub place_at-requires : goal.place_at-requires
+place_at-requires g t c =
     let d = downs c.args.level c.args.span c.args.tips.now c.args.at c.args.low c.args.end c.in-Some.here (sym c.in-Some.ensures) c.requires.tree c.requires.span in
     d.inside
 
-pub overflow-sub-level : goal.overflow-sub-level
-overflow-sub-level g t c =
+pub overflow_sub-level : goal.overflow_sub-level
+overflow_sub-level g t c =
     let d = downs c.args.level c.args.span c.args.tips.now c.args.at c.args.low c.args.end c.in-Some.here (sym c.in-Some.ensures) c.requires.tree c.requires.span in
     omega arith
 
-pub overflow-sub-level-else-place-middle : goal.overflow-sub-level-else-place-middle
-overflow-sub-level-else-place-middle g t c =
+pub overflow_sub-level-else-place-middle : goal.overflow_sub-level-else-place-middle
+overflow_sub-level-else-place-middle g t c =
     let d = downs c.args.level c.args.span c.args.tips.now c.args.at c.args.low c.args.end c.in-Some.here (sym c.in-Some.ensures) c.requires.tree c.requires.span in
     omega arith
 
@@ -59,7 +59,7 @@ returns-then-here-place g t c =
     let v = c.args.cell in
     let d = downs c.args.level c.args.span ts c.args.at c.args.low c.args.end c.in-Some.here (sym c.in-Some.ensures) c.requires.tree c.requires.span in
     let done = at_node p v (c.args.level - 1) c.args.level ts ts c.args.at c.args.low c.args.end 0 c.in-Some.here (sym c.in-Some.ensures) d.up c.requires.tree c.if-here-place.true in
-    let last = subst (λ (ys : List (Tip _)). Over p v c.args.level ts ys c.args.at c.args.low c.args.end) (sym c.place-at.ensures) done in
+    let last = subst (λ (ys : List (Tip _)). Over p v c.args.level ts ys c.args.at c.args.low c.args.end) (sym c.place_at.ensures) done in
     record { list = last.0; tree = last.1; frame = last.2 }
 
 pub returns-then-place-middle : goal.returns-then-place-middle

@@ -9,10 +9,10 @@ use Rattle.sparse.proofs.Finds.{downs, go_left, go_right, differs}
 use Rattle.sparse.proofs.Cuts.{Left, del_here, past, rm_left, rm_right}
 use Rattle.sparse.proofs.prune.+remove.Goals as goal
 
-pub returns-in-default : goal.returns-in-default
-returns-in-default g t c =
+pub returns-in_default : goal.returns-in_default
+returns-in_default g t c =
     absurd (differs (found c.args.place (listed c.args.level c.args.tips.now c.args.at)) c.args.cell c.requires.held
-    (ap (found c.args.place) (listed_none c.args.level c.args.tips.now c.args.at (sym c.in-default.ensures))))
+    (ap (found c.args.place) (listed_none c.args.level c.args.tips.now c.args.at (sym c.in_default.ensures))))
 
 pub returns-then-here-place : goal.returns-then-here-place
 returns-then-here-place g t c =
@@ -29,8 +29,8 @@ returns-then-here-place g t c =
     let k = subst (λ (n : ℕ). behind (listed n ts at) ≡ del p (listed n ts at)) (sym d.up) (del_here m ts at a b p x now d.tree c.if-here-place.true) in
     record { list = y.list ∙ k; tree = y.tree; spent = y.spent; inside = y.inside; frame = y.frame }
 
-pub overflow-add-next : goal.overflow-add-next
-overflow-add-next g t c =
+pub overflow_add-next : goal.overflow_add-next
+overflow_add-next g t c =
     let ts = c.args.tips.now in
     let at = c.args.at in
     let a = c.args.low in
@@ -77,8 +77,8 @@ remove-cut-requires-else-place-middle g t c κs within =
     let less : c.args.level - 1 < t = omega arith in
     (less, (within, (subst (λ (q : ℕ). Tree m ts q b x.right) (sym emax) d.right, (d.half, (go_right m ts at b p x now tree0 other (omega arith) ∙ held, c.requires.short)))))
 
-pub place-at-requires : goal.place-at-requires
-place-at-requires g t c =
+pub place_at-requires : goal.place_at-requires
+place_at-requires g t c =
     let ts = c.args.tips.now in
     let at = c.args.at in
     let a = c.args.low in
@@ -88,8 +88,8 @@ place-at-requires g t c =
     let d = downs c.args.level c.args.span ts at a b x now c.requires.tree c.requires.span in
     omega arith
 
-pub place-at-requires-else-place-middle : goal.place-at-requires-else-place-middle
-place-at-requires-else-place-middle g t c =
+pub place_at-requires-else-place-middle : goal.place_at-requires-else-place-middle
+place_at-requires-else-place-middle g t c =
     let ts = c.args.tips.now in
     let at = c.args.at in
     let a = c.args.low in
@@ -121,7 +121,7 @@ returns-then-place-middle g t c =
     let done = rm_left m ts at a b p x now d.tree us r fr sp long y.spent other (omega arith) y.list (subst (λ (q : ℕ). Tree m us (x.node.place + 1) q r) emid y.tree)
     (subst (λ (q : ℕ). Inside (x.node.place + 1) q (slice_get ts fr)) emid y.inside) (λ j ap. y.frame j (subst (λ (q : ℕ). Apart (x.node.place + 1) q (slice_get ts j)) (sym emid) ap)) in
     let back = subst (λ (n : ℕ). Left n ts (set us at (tip x.node r x.right)) at fr a b at sp (del p (listed n ts at))) (sym d.up) (done) in
-    let last = subst (λ (ys : List (Tip _)). Left c.args.level ts ys at fr a b at sp (del p (listed c.args.level ts at))) (sym c.place-at.ensures) back in
+    let last = subst (λ (ys : List (Tip _)). Left c.args.level ts ys at fr a b at sp (del p (listed c.args.level ts at))) (sym c.place_at.ensures) back in
     record { list = last.0; tree = last.1; spent = last.2; inside = last.3; frame = last.4 }
 
 pub returns-else-place-middle : goal.returns-else-place-middle
@@ -148,5 +148,5 @@ returns-else-place-middle g t c =
     let done = rm_right m ts at a b p x now d.tree us r fr sp long y.spent other (omega arith) (past m ts at a b p x now d.tree c.args.cell held) y.list (subst (λ (q : ℕ). Tree m us q b r) emax y.tree)
     (subst (λ (q : ℕ). Inside q b (slice_get ts fr)) emax y.inside) (λ j ap. y.frame j (subst (λ (q : ℕ). Apart q b (slice_get ts j)) (sym emax) ap)) in
     let back = subst (λ (n : ℕ). Left n ts (set us at (tip x.node x.left r)) at fr a b at sp (del p (listed n ts at))) (sym d.up) (done) in
-    let last = subst (λ (ys : List (Tip _)). Left c.args.level ts ys at fr a b at sp (del p (listed c.args.level ts at))) (sym c.place-at-else-place-middle.ensures) back in
+    let last = subst (λ (ys : List (Tip _)). Left c.args.level ts ys at fr a b at sp (del p (listed c.args.level ts at))) (sym c.place_at-else-place-middle.ensures) back in
     record { list = last.0; tree = last.1; spent = last.2; inside = last.3; frame = last.4 }

@@ -6,9 +6,9 @@ use Rattle.sparse.proofs.Grown.{listed_none}
 use Rattle.sparse.proofs.Finds.{downs, step_left, found_here, go_left, go_right}
 use Rattle.sparse.proofs.seek.+find.Goals as goal
 
-pub returns-in-default : goal.returns-in-default
-returns-in-default g t c =
-    sym (ap (found c.args.place) (listed_none c.args.level c.args.tips.now c.args.at (sym c.in-default.ensures)))
+pub returns-in_default : goal.returns-in_default
+returns-in_default g t c =
+    sym (ap (found c.args.place) (listed_none c.args.level c.args.tips.now c.args.at (sym c.in_default.ensures)))
 
 pub returns-then-here-place : goal.returns-then-here-place
 returns-then-here-place g t c =
@@ -21,8 +21,8 @@ returns-then-here-place g t c =
     let d = downs c.args.level c.args.span ts at 0 b x now c.requires.tree c.requires.span in
     subst (λ (n : ℕ). Some x.node.cell ≡ found c.args.place (listed n ts at)) (sym d.up) (found_here m ts at b c.args.place x now d.tree c.if-here-place.true)
 
-pub overflow-sub-level : goal.overflow-sub-level
-overflow-sub-level g t c =
+pub overflow_sub-level : goal.overflow_sub-level
+overflow_sub-level g t c =
     let ts = c.args.tips.now in
     let at = c.args.at in
     let b = c.args.end in
@@ -31,8 +31,8 @@ overflow-sub-level g t c =
     let d = downs c.args.level c.args.span ts at 0 b x now c.requires.tree c.requires.span in
     omega arith
 
-pub overflow-sub-level-else-place-middle : goal.overflow-sub-level-else-place-middle
-overflow-sub-level-else-place-middle g t c =
+pub overflow_sub-level-else-place-middle : goal.overflow_sub-level-else-place-middle
+overflow_sub-level-else-place-middle g t c =
     let ts = c.args.tips.now in
     let at = c.args.at in
     let b = c.args.end in

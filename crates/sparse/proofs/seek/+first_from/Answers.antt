@@ -6,9 +6,9 @@ use Rattle.sparse.proofs.Grown.{listed_none}
 use Rattle.sparse.proofs.Finds.{downs, step_left, from_here, from_left, from_right, from_up}
 use Rattle.sparse.proofs.seek.+first_from.Goals as goal
 
-pub returns-in-default : goal.returns-in-default
-returns-in-default g t c =
-    sym (ap (first_from c.args.place) (listed_none c.args.level c.args.tips.now c.args.at (sym c.in-default.ensures)))
+pub returns-in_default : goal.returns-in_default
+returns-in_default g t c =
+    sym (ap (first_from c.args.place) (listed_none c.args.level c.args.tips.now c.args.at (sym c.in_default.ensures)))
 
 pub returns-then-place-here : goal.returns-then-place-here
 returns-then-place-here g t c =
@@ -22,8 +22,8 @@ returns-then-place-here g t c =
     let d = downs c.args.level c.args.span ts at 0 b x now c.requires.tree c.requires.span in
     subst (λ (n : ℕ). Some x.node ≡ first_from p (listed n ts at)) (sym d.up) (from_here m ts at b p x now d.tree c.if-place-here.true)
 
-pub first-from-requires : goal.first-from-requires
-first-from-requires g t c κs within =
+pub first_from-requires : goal.first_from-requires
+first_from-requires g t c κs within =
     let ts = c.args.tips.now in
     let at = c.args.at in
     let b = c.args.end in
@@ -36,8 +36,8 @@ first-from-requires g t c κs within =
     let k = step_left m ts at b c.args.place x now d.tree in
     (less, (within, (subst (λ (q : ℕ). Tree m ts 0 q x.left) (sym emid) k.0, d.half)))
 
-pub first-from-requires-then-place-middle : goal.first-from-requires-then-place-middle
-first-from-requires-then-place-middle g t c κs within =
+pub first_from-requires-then-place-middle : goal.first_from-requires-then-place-middle
+first_from-requires-then-place-middle g t c κs within =
     let ts = c.args.tips.now in
     let at = c.args.at in
     let b = c.args.end in
@@ -50,8 +50,8 @@ first-from-requires-then-place-middle g t c κs within =
     let k = step_left m ts at b c.args.place x now d.tree in
     (less, (within, (k.1, d.half)))
 
-pub first-from-requires-2 : goal.first-from-requires-2
-first-from-requires-2 g t c κs within =
+pub first_from-requires-2 : goal.first_from-requires-2
+first_from-requires-2 g t c κs within =
     let ts = c.args.tips.now in
     let at = c.args.at in
     let b = c.args.end in
@@ -64,8 +64,8 @@ first-from-requires-2 g t c κs within =
     let k = step_left m ts at b c.args.place x now d.tree in
     (less, (within, (k.1, d.half)))
 
-pub returns-in-Some-first-from : goal.returns-in-Some-first-from
-returns-in-Some-first-from g t c =
+pub returns-in-Some-first_from : goal.returns-in-Some-first_from
+returns-in-Some-first_from g t c =
     let ts = c.args.tips.now in
     let at = c.args.at in
     let b = c.args.end in
@@ -74,7 +74,7 @@ returns-in-Some-first-from g t c =
     let x = c.in-Some.here in
     let now : slice_get ts at ≡ Some x = sym c.in-Some.ensures in
     let d = downs c.args.level c.args.span ts at 0 b x now c.requires.tree c.requires.span in
-    subst (λ (n : ℕ). Some c.in-Some-first-from.x ≡ first_from p (listed n ts at)) (sym d.up) (from_left m ts at b p x now d.tree c.if-place-here.false c.in-Some-first-from.x c.in-Some-first-from.ensures)
+    subst (λ (n : ℕ). Some c.in-Some-first_from.x ≡ first_from p (listed n ts at)) (sym d.up) (from_left m ts at b p x now d.tree c.if-place-here.false c.in-Some-first_from.x c.in-Some-first_from.ensures)
 
 pub returns-then-place-middle : goal.returns-then-place-middle
 returns-then-place-middle g t c =
@@ -86,7 +86,7 @@ returns-then-place-middle g t c =
     let x = c.in-Some.here in
     let now : slice_get ts at ≡ Some x = sym c.in-Some.ensures in
     let d = downs c.args.level c.args.span ts at 0 b x now c.requires.tree c.requires.span in
-    c.first-from-then-place-middle.ensures ∙ subst (λ (n : ℕ). first_from p (listed m ts x.right) ≡ first_from p (listed n ts at)) (sym d.up) (from_right m ts at b p x now d.tree c.if-place-here.false c.in-default-first-from.ensures)
+    c.first_from-then-place-middle.ensures ∙ subst (λ (n : ℕ). first_from p (listed m ts x.right) ≡ first_from p (listed n ts at)) (sym d.up) (from_right m ts at b p x now d.tree c.if-place-here.false c.in_default-first_from.ensures)
 
 pub returns : goal.returns
 returns g t c =
@@ -99,4 +99,4 @@ returns g t c =
     let now : slice_get ts at ≡ Some x = sym c.in-Some.ensures in
     let d = downs c.args.level c.args.span ts at 0 b x now c.requires.tree c.requires.span in
     let emid : b - c.min.result ≡ b - width m = omega arith in
-    c.first-from-2.ensures ∙ subst (λ (n : ℕ). first_from p (listed m ts x.right) ≡ first_from p (listed n ts at)) (sym d.up) (from_up m ts at b p x now d.tree c.if-place-here.false (omega arith))
+    c.first_from-2.ensures ∙ subst (λ (n : ℕ). first_from p (listed m ts x.right) ≡ first_from p (listed n ts at)) (sym d.up) (from_up m ts at b p x now d.tree c.if-place-here.false (omega arith))

@@ -16,19 +16,13 @@ invariant_of-result g c =
     let n = c.truncate.ensures.len in
     let k = c.deref_mut.ensures.len in
     let all : length c.deref_mut.result.now ≡ c.len-loose.result = omega arith in
-    let ch = subst (λ (m : ℕ). chained m ws c.chain_up-free.result ≡ true) all c.chain_up-free.ensures in (
-      omega arith,
-      (
-        omega arith,
-        (
-          subst (λ (xs : List (Tip _)). c.len-loose.result + length (listed 18 xs 4294967295) ≤ top_nodes) (sym E) (omega arith),
-          (
-            subst (λ (xs : List (Tip _)). chained c.len-loose.result xs c.chain_up-free.result ≡ true) (sym E) ch,
-            (subst (λ (xs : List (Tip _)). treed 18 xs 0 c.min.result 4294967295 ≡ true) (sym E) b.1, tt),
-          ),
-        ),
-      ),
-    )
+    let ch = subst (λ (m : ℕ). chained m ws c.chain_up-free.result ≡ true) all c.chain_up-free.ensures in record {
+      near = omega arith;
+      row = omega arith;
+      few = subst (λ (xs : List (Tip _)). c.len-loose.result + length (listed 18 xs 4294967295) ≤ top_nodes) (sym E) (omega arith);
+      chain = subst (λ (xs : List (Tip _)). chained c.len-loose.result xs c.chain_up-free.result ≡ true) (sym E) ch;
+      tree = subst (λ (xs : List (Tip _)). treed 18 xs 0 c.min.result 4294967295 ≡ true) (sym E) b.1;
+    }
 
 pub returns : goal.returns
 unfolding held

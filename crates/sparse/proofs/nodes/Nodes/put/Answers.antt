@@ -47,19 +47,13 @@ invariant_of-self g c =
     let new = c.insert-new.result in
     let list = subst (λ (xs : List (Tip _)). listed 18 ws new ≡ ins c.args.node (listed 18 xs s.root)) v y.list in
     let k = gave 18 ts ws s.root new s.free s.loose s.reach c.args.node c.in-Some.top s.near c.requires.loose s.chain (sym c.in-Some.ensures) s.few list
-    (λ j nf ap2. y.frame j nf (subst (λ (xs : List (Tip _)). Apart 0 s.reach (slice_get xs j)) (sym v) ap2) ∙ ap (λ (xs : List (Tip _)). slice_get xs j) v) in (
-      s.near,
-      (
-        s.row,
-        (
-          subst (λ (xs : List (Tip _)). s.loose - 1 + length (listed 18 xs new) ≤ top_nodes) (sym E) k.0,
-          (
-            subst (λ (xs : List (Tip _)). chained (s.loose - 1) xs c.in-Some.top.left ≡ true) (sym E) k.1,
-            (subst (λ (xs : List (Tip _)). treed 18 xs 0 s.reach new ≡ true) (sym E) (tree_to 18 ws 0 s.reach new y.tree), tt),
-          ),
-        ),
-      ),
-    )
+    (λ j nf ap2. y.frame j nf (subst (λ (xs : List (Tip _)). Apart 0 s.reach (slice_get xs j)) (sym v) ap2) ∙ ap (λ (xs : List (Tip _)). slice_get xs j) v) in record {
+      near = s.near;
+      row = s.row;
+      few = subst (λ (xs : List (Tip _)). s.loose - 1 + length (listed 18 xs new) ≤ top_nodes) (sym E) k.0;
+      chain = subst (λ (xs : List (Tip _)). chained (s.loose - 1) xs c.in-Some.top.left ≡ true) (sym E) k.1;
+      tree = subst (λ (xs : List (Tip _)). treed 18 xs 0 s.reach new ≡ true) (sym E) (tree_to 18 ws 0 s.reach new y.tree);
+    }
 
 pub returns : goal.returns
 unfolding held

@@ -26,19 +26,13 @@ invariant_of-self g c =
     let E = with_items_is s.tips ws (omega arith) in
     let list = subst (λ (xs : List (Tip _)). listed 18 ws s.root ≡ over c.args.place c.args.cell (listed 18 xs s.root)) v y.list in
     let k = stayed 18 ts ws s.root s.free s.loose s.reach c.args.place c.args.cell s.near s.chain s.few list
-    (λ j ap2. y.frame j (subst (λ (xs : List (Tip _)). Apart 0 s.reach (slice_get xs j)) (sym v) ap2) ∙ ap (λ (xs : List (Tip _)). slice_get xs j) v) in (
-      s.near,
-      (
-        s.row,
-        (
-          subst (λ (xs : List (Tip _)). s.loose + length (listed 18 xs s.root) ≤ top_nodes) (sym E) k.0,
-          (
-            subst (λ (xs : List (Tip _)). chained s.loose xs s.free ≡ true) (sym E) k.1,
-            (subst (λ (xs : List (Tip _)). treed 18 xs 0 s.reach s.root ≡ true) (sym E) (tree_to 18 ws 0 s.reach s.root y.tree), tt),
-          ),
-        ),
-      ),
-    )
+    (λ j ap2. y.frame j (subst (λ (xs : List (Tip _)). Apart 0 s.reach (slice_get xs j)) (sym v) ap2) ∙ ap (λ (xs : List (Tip _)). slice_get xs j) v) in record {
+      near = s.near;
+      row = s.row;
+      few = subst (λ (xs : List (Tip _)). s.loose + length (listed 18 xs s.root) ≤ top_nodes) (sym E) k.0;
+      chain = subst (λ (xs : List (Tip _)). chained s.loose xs s.free ≡ true) (sym E) k.1;
+      tree = subst (λ (xs : List (Tip _)). treed 18 xs 0 s.reach s.root ≡ true) (sym E) (tree_to 18 ws 0 s.reach s.root y.tree);
+    }
 
 pub returns : goal.returns
 unfolding held

@@ -36,19 +36,13 @@ invariant_of-self g c =
     let list = subst (λ (xs : List (Tip _)). listed 18 ws c.remove-cut.result.root ≡ del c.args.place (listed 18 xs s.root)) v y.list in
     let k = took 18 ts ws s.root c.remove-cut.result.root c.remove-cut.result.free s.free s.loose s.reach c.args.place c.args.cell c.freed-spent.result s.near s.chain
     c.requires s.few list y.spent c.freed-spent.ensures.place c.freed-spent.ensures.left
-    (λ j ap2. y.frame j (subst (λ (xs : List (Tip _)). Apart 0 s.reach (slice_get xs j)) (sym v) ap2) ∙ ap (λ (xs : List (Tip _)). slice_get xs j) v) in (
-      s.near,
-      (
-        s.row,
-        (
-          subst (λ (xs : List (Tip _)). s.loose + 1 + length (listed 18 xs c.remove-cut.result.root) ≤ top_nodes) (sym E) k.0,
-          (
-            subst (λ (xs : List (Tip _)). chained (s.loose + 1) xs c.remove-cut.result.free ≡ true) (sym E) k.1,
-            (subst (λ (xs : List (Tip _)). treed 18 xs 0 s.reach c.remove-cut.result.root ≡ true) (sym E) (tree_to 18 ws 0 s.reach c.remove-cut.result.root y.tree), tt),
-          ),
-        ),
-      ),
-    )
+    (λ j ap2. y.frame j (subst (λ (xs : List (Tip _)). Apart 0 s.reach (slice_get xs j)) (sym v) ap2) ∙ ap (λ (xs : List (Tip _)). slice_get xs j) v) in record {
+      near = s.near;
+      row = s.row;
+      few = subst (λ (xs : List (Tip _)). s.loose + 1 + length (listed 18 xs c.remove-cut.result.root) ≤ top_nodes) (sym E) k.0;
+      chain = subst (λ (xs : List (Tip _)). chained (s.loose + 1) xs c.remove-cut.result.free ≡ true) (sym E) k.1;
+      tree = subst (λ (xs : List (Tip _)). treed 18 xs 0 s.reach c.remove-cut.result.root ≡ true) (sym E) (tree_to 18 ws 0 s.reach c.remove-cut.result.root y.tree);
+    }
 
 pub returns : goal.returns
 unfolding held
