@@ -6,14 +6,14 @@ use Rattle.engine.specs.Listings.{line_at, lines_from, listed_to, all_stand, lis
 use Rattle.engine.proofs.Listed.{told_cell, told_none, found, rest, absent, to_stands, all_stands, to_lost, all_lost}
 use Rattle.engine.proofs.listing.listing.Goals as goal
 
-pub returns-in-default-cell : goal.returns-in-default-cell
-returns-in-default-cell g c =
+pub returns-in_default-cell : goal.returns-in_default-cell
+returns-in_default-cell g c =
     let s = g.S.Store.model c.args.store.now in
     let p = c.loop-place.from in
     let f = found g.V.Value.ops s (g.V.Value.meaning c.args.pool.now) (s.reach - p) p c.in-Some.place c.in-Some.ensures.value in
     let l = f.low in
     let h = f.high in
-    absurd (told_none s c.in-Some.place c.in-default-cell.ensures (omega arith))
+    absurd (told_none s c.in-Some.place c.in_default-cell.ensures (omega arith))
 
 pub returns-then-not-listed : goal.returns-then-not-listed
 returns-then-not-listed g c =
@@ -74,7 +74,7 @@ returns g c =
     let m = g.V.Value.meaning c.args.pool.now in
     let p = c.loop-place.from in
     let o = out_of c.loop-place.writer c.loop-place.out in
-    let e = absent k s m (s.reach - p) p c.in-default.ensures.value in
+    let e = absent k s m (s.reach - p) p c.in_default.ensures.value in
     record {
       answer = ap listing_answer (sym (ap (all_stand o) e) ∙ c.loop-place.invariant.2);
       written = sym (ap (listed_to o) e) ∙ c.loop-place.invariant.1;

@@ -14,7 +14,7 @@ returns-in-err-level g c =
     let q = stack_of c.args.state.now.pending in
     let x = err_from_is_err_and c.from-residual.result c.from-residual.ensures.1 in
     let e = c.in-err-level.ensures in
-    let o = λ (s : StoreModel g.row.V.Denot) (m : g.row.V-Value.Meaning). cause_of g.V.Value.ops (opens (record { kind = c.args.kind; line = c.args.line })) (table_of s m n (stack_of c.args.saves.now) q) in
+    let o = λ (s : StoreModel g.row.V.Denot) (m : g.V.Value.Meaning). cause_of g.V.Value.ops (opens (record { kind = c.args.kind; line = c.args.line })) (table_of s m n (stack_of c.args.saves.now) q) in
     rw (x.1, x.2) (record {
       answer = λ s m. (refused (n.level + 1) (handle_of c.args.kind (n.level + 1)) n (o s m) (e.answer s m q)).0;
       table = λ s m. e.table s m q;
@@ -26,7 +26,7 @@ returns g c =
     let n = c.args.state.now.nesting in
     let q = stack_of c.args.state.now.pending in
     let e = c.in-ok-level.ensures in
-    let a = λ (s : StoreModel g.row.V.Denot) (m : g.row.V-Value.Meaning). allowed (n.level + 1) (handle_of c.args.kind (n.level + 1)) n
+    let a = λ (s : StoreModel g.row.V.Denot) (m : g.V.Value.Meaning). allowed (n.level + 1) (handle_of c.args.kind (n.level + 1)) n
     (cause_of g.V.Value.ops (opens (record { kind = c.args.kind; line = c.args.line })) (table_of s m n (stack_of c.args.saves.now) q)) (e.answer s m q) in
     record {
       answer = λ s m. ap (λ (l : ℕ). Ok (handle_of c.args.kind l)) (a s m).0 ∙ (a s m).1;
