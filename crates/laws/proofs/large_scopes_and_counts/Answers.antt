@@ -13,5 +13,5 @@ returns c =
       n,
       subst (λ (t : Table Mixed PoolModel). Law mixed_ops t)
           (same_table c.new-store.ensures c.new-pool.ensures c.new.ensures c.limited-saves.ensures c.new-pending.ensures)
-          c.scopes-and-counts.ensures n,
+          c.scopes_and_counts.ensures n,
     )

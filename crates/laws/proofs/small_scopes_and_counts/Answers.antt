@@ -12,5 +12,5 @@ returns c =
       n,
       subst (λ (t : Table Plain (Unit {0})). Law plain_ops t)
           (same_table c.new-store.ensures refl c.new.ensures c.limited-saves.ensures c.new-pending.ensures)
-          c.scopes-and-counts.ensures n,
+          c.scopes_and_counts.ensures n,
     )

@@ -8,12 +8,12 @@ use Rattle.engine.proofs.Verdicts.{allowed, refused}
 use Rattle.registers.specs.Handles.{handle_of}
 use Rattle.registers.proofs.group.open_group.Goals as goal
 
-pub returns-in-err-level : goal.returns-in-err-level
-returns-in-err-level g c =
+pub returns-in_err-level : goal.returns-in_err-level
+returns-in_err-level g c =
     let n = c.args.state.now.nesting in
     let q = stack_of c.args.state.now.pending in
-    let x = err_from_is_err_and c.from-residual.result c.from-residual.ensures.1 in
-    let e = c.in-err-level.ensures in
+    let x = err_from_is_err_and c.from_residual.result c.from_residual.ensures.1 in
+    let e = c.in_err-level.ensures in
     let o = λ (s : StoreModel g.row.V.Denot) (m : g.V.Value.Meaning). cause_of g.V.Value.ops (opens (record { kind = c.args.kind; line = c.args.line })) (table_of s m n (stack_of c.args.saves.now) q) in
     rw (x.1, x.2) (record {
       answer = λ s m. (refused (n.level + 1) (handle_of c.args.kind (n.level + 1)) n (o s m) (e.answer s m q)).0;
@@ -25,7 +25,7 @@ pub returns : goal.returns
 returns g c =
     let n = c.args.state.now.nesting in
     let q = stack_of c.args.state.now.pending in
-    let e = c.in-ok-level.ensures in
+    let e = c.in_ok-level.ensures in
     let a = λ (s : StoreModel g.row.V.Denot) (m : g.V.Value.Meaning). allowed (n.level + 1) (handle_of c.args.kind (n.level + 1)) n
     (cause_of g.V.Value.ops (opens (record { kind = c.args.kind; line = c.args.line })) (table_of s m n (stack_of c.args.saves.now) q)) (e.answer s m q) in
     record {
