@@ -1,5 +1,5 @@
 -- Unwinding, close by close.
-use Rattle.std.proofs.Common.{◌≡◌, ℕ, zero, suc, ◌+◌, ◌-◌, ◌<◌, ◌≤◌, max, Bool, true, false, cond, not, ◌&&◌, eqb, ltb, List, [], ◌∷◌, ◌++◌, replicate, sym, refl, ap, ◌∙◌, arith}
+use Rattle.std.proofs.Common.{◌≡◌, ℕ, suc, ◌-◌, ◌<◌, ◌≤◌, Bool, true, false, cond, not, ◌&&◌, ltb, List, [], ◌∷◌, ◌++◌, replicate, sym, refl, ap, ◌∙◌, arith}
 use Rattle.std.proofs.lemmas.Bool.{lt-ltb}
 use Rattle.output.specs.Text.{Out, wrote, told}
 use Rattle.tokens.specs.declared.refusal.Refusal.TheVariants.{OtherGroup}
@@ -7,7 +7,7 @@ use Rattle.values.specs.Ops.{Ops}
 use Rattle.save_stack.specs.declared.entry.Entry.{Entry}
 use Rattle.save_stack.specs.declared.entry.Entry.TheVariants.{Saved, Held, Boundary}
 use Rattle.engine.specs.declared.fault.Cause.TheVariants.{Call}
-use Rattle.engine.specs.Acts.{Act, drops, pops, staying, unsaved, unheld, passes, tried, after, unwound_to}
+use Rattle.engine.specs.Acts.{drops, pops, staying, unsaved, unheld, passes, tried, after, unwound_to}
 use Rattle.engine.specs.Faults.{first_of, is_none}
 use Rattle.engine.specs.Tables.{Table}
 use Rattle.engine.specs.Traces.{pop_lines, lines_of, all_lines}

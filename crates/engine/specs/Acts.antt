@@ -1,11 +1,10 @@
 -- The calls on a table, one by one: when each is refused, and what it does.
-use Rattle.std.specs.Prelude.{ℕ, ◌+◌, ◌-◌, max, Bool, true, false, cond, not, ◌&&◌, List, [], ◌∷◌, Some, None, Option, ◌==◌, nat_le, nat_lt}
+use Rattle.std.specs.Prelude.{ℕ, ◌+◌, ◌-◌, max, Bool, true, false, cond, not, ◌&&◌, List, [], ◌∷◌, Some, Option, ◌==◌, nat_le, nat_lt}
 use Rattle.tokens.specs.Codes.{is_code, all_codes}
 use Rattle.tokens.specs.Classes.{is_list}
 use Rattle.tokens.specs.Limits.{top_level}
 use Rattle.tokens.specs.declared.group.Group.{Group}
 use Rattle.tokens.specs.declared.group.GroupKind.{GroupKind}
-use Rattle.tokens.specs.declared.refusal.Refusal.{Refusal}
 use Rattle.tokens.specs.declared.refusal.Refusal.TheVariants.{OutOfBounds, NoPlace, OtherGroup, TooDeep, NoWords, NoEntry, NoNodes}
 use Rattle.values.specs.Readings.{Reading, tokens, nil, cost}
 use Rattle.values.specs.Ops.{Ops, list_stands}

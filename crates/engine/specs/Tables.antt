@@ -1,5 +1,5 @@
 -- What a table means.
-use Rattle.std.specs.Prelude.{ℕ, List, Option}
+use Rattle.std.specs.Prelude.{ℕ, Option}
 use Rattle.tokens.specs.declared.group.Group.{Group}
 use Rattle.stores.specs.Stores.{StoreModel}
 use Rattle.save_stack.specs.Stacks.{StackModel}

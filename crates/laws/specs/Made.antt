@@ -1,5 +1,5 @@
 -- Tables as they are made.
-use Rattle.std.specs.Prelude.{◌≡◌, ℕ, min}
+use Rattle.std.specs.Prelude.{ℕ, min}
 use Rattle.tokens.specs.Limits.{top_reach, top_entries}
 use Rattle.values.specs.Ops.{Ops}
 use Rattle.values.specs.Plains.{plain_ops}

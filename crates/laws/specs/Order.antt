@@ -1,5 +1,5 @@
 -- The order of refusals.
-use Rattle.std.specs.Prelude.{◌≡◌, ℕ, ◌≤◌, Bool, true, false, List, [], ◌∷◌, Some, None}
+use Rattle.std.specs.Prelude.{◌≡◌, ℕ, ◌≤◌, Bool, true, List, ◌∷◌, Some, None}
 use Rattle.tokens.specs.Refusals.{number_of}
 use Rattle.values.specs.Ops.{Ops}
 use Rattle.engine.specs.Tables.{Table}

@@ -1,5 +1,5 @@
 -- The mixed value as a kind of value: the large model.
-use Rattle.std.specs.Prelude.{ℕ, ◌/◌, ◌%◌, Bool, true, false, cond, not, ◌&&◌, List, [], ◌∷◌, ◌++◌, length, ℤ, Some, None, Option, ◌==◌, nat_le, nat_lt, unsigned_abs}
+use Rattle.std.specs.Prelude.{ℕ, ◌/◌, ◌%◌, Bool, true, false, cond, not, ◌&&◌, [], ◌∷◌, ◌++◌, ℤ, Some, None, Option, ◌==◌, nat_le, nat_lt, unsigned_abs}
 use Rattle.tokens.specs.Limits.{top_reach, top_number, top_dimension}
 use Rattle.tokens.specs.declared.class.Class.{Class}
 use Rattle.tokens.specs.declared.class.Class.TheVariants.{Count, Dimen, Toks}

@@ -1,11 +1,10 @@
 -- The answers of a close.
-use Rattle.std.proofs.Common.{◌≡◌, ℕ, Some, None, Ok, Err, Option, Result, refl, arith}
+use Rattle.std.proofs.Common.{◌≡◌, ℕ, Some, None, Ok, Err, Option, refl, arith}
 use Rattle.engine.specs.Faults.{answer_of, fault_at}
 use Rattle.engine.specs.declared.fault.Cause.{Cause}
 use Rattle.engine.specs.declared.fault.EngineFault.{EngineFault}
 use Rattle.engine.specs.declared.nesting.Nesting.{Nesting}
 use Rattle.registers.specs.declared.handle.GroupHandle.{GroupHandle}
-use Rattle.registers.specs.declared.handle.StillOpen.{StillOpen}
 use Rattle.registers.specs.Handles.{close_answer}
 
 -- a close that is carried out

@@ -1,11 +1,11 @@
 -- A stack as the reverse of the front of a row.
-use Rattle.std.proofs.Common.{◌≡◌, ℕ, zero, suc, ◌+◌, ◌-◌, ◌<◌, ◌≤◌, min, Bool, true, false, cond, eqb, List, [], ◌∷◌, ◌++◌, reverse, length, get_or, take, set, Some, None, sym, refl, ap, ◌∙◌, ⊎_elim, arith, length-set, get_or-set_same}
+use Rattle.std.proofs.Common.{◌≡◌, ℕ, ◌+◌, ◌-◌, ◌<◌, ◌≤◌, min, false, List, [], ◌∷◌, reverse, length, get_or, take, set, Some, sym, ap, ◌∙◌, ⊎_elim, arith, length-set, get_or-set_same}
 use mathlib.Core.List.{reverse-append}
 use Rattle.std.proofs.lemmas.List.{take_more, take-set, take_all}
 use Rattle.std.proofs.lemmas.Bool.{cases_lt, ne_eqb}
 use Rattle.save_stack.specs.Entries.{held_in}
 use Rattle.save_stack.specs.declared.entry.Entry.{Entry}
-use Rattle.save_stack.specs.Stacks.{StackModel, row_of, is_full, pushed, newest, under}
+use Rattle.save_stack.specs.Stacks.{row_of, is_full, pushed, newest, under}
 
 -- one entry more of a row is the newest of the stack
 pub front_more : {E : Type 0} (xs : List E) (n : ℕ) (d : E) → n < length xs → reverse (take (n + 1) xs) ≡ get_or xs n d ∷ reverse (take n xs)

@@ -1,5 +1,5 @@
 -- What a stack means: what it holds, newest first, and how many more entries it takes.
-use Rattle.std.specs.Prelude.{ℕ, ◌+◌, ◌-◌, Bool, true, false, cond, List, [], ◌∷◌, reverse, length, take, Some, None, Option, ◌==◌}
+use Rattle.std.specs.Prelude.{ℕ, ◌+◌, ◌-◌, Bool, cond, List, [], ◌∷◌, reverse, length, take, Some, None, Option, ◌==◌}
 
 -- the meaning of a stack
 pub record StackModel (E : Type 0) : Type 0 where

@@ -1,5 +1,5 @@
 -- Nodes in the order of their places, and what stands at a place.
-use Rattle.std.specs.Prelude.{◌≡◌, ℕ, ◌+◌, ◌≤◌, cond, List, [], ◌∷◌, Some, None, Option, ◌==◌, ◌≢◌, nat_le, nat_lt}
+use Rattle.std.specs.Prelude.{ℕ, ◌+◌, ◌≤◌, cond, List, [], ◌∷◌, Some, None, Option, ◌==◌, ◌≢◌, nat_le, nat_lt}
 use Rattle.stores.specs.declared.cell.Cell.{Cell}
 use Rattle.sparse.specs.declared.node.Node.{Node}
 

@@ -1,5 +1,5 @@
 -- What a write does to a row of cells and to the count of those that pass a test.
-use Rattle.std.proofs.Common.{◌≡◌, ℕ, zero, suc, ◌+◌, ◌-◌, ◌<◌, Bool, true, false, cond, not, ◌&&◌, eqb, List, [], ◌∷◌, length, get_or, drop, set, Some, Ok, sum_by, sym, refl, ap, ◌∙◌, ⊎_elim, arith, length-set, lt-ltb, ne_eqb, eqb-true}
+use Rattle.std.proofs.Common.{◌≡◌, ℕ, suc, ◌+◌, ◌-◌, ◌<◌, Bool, true, false, cond, not, ◌&&◌, eqb, List, [], ◌∷◌, length, get_or, drop, set, Some, Ok, sum_by, sym, refl, ap, ◌∙◌, ⊎_elim, arith, length-set, lt-ltb, ne_eqb, eqb-true}
 use mathlib.Core.Path.{fun_ext}
 use borrow.Author.Tests.{eqb-false}
 use Rattle.std.proofs.lemmas.List.{get_or-set_same, get_or-set_other, get_or_past, get_or_read, at_drop_more}

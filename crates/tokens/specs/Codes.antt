@@ -1,5 +1,5 @@
 -- The codes of tokens: a byte's code is the byte, and the words follow from 256 on.
-use Rattle.std.specs.Prelude.{ℕ, ◌+◌, Bool, true, false, cond, not, ◌&&◌, List, [], ◌∷◌, ◌==◌, nat_le, nat_lt}
+use Rattle.std.specs.Prelude.{ℕ, ◌+◌, Bool, true, cond, not, ◌&&◌, List, [], ◌∷◌, ◌==◌, nat_le, nat_lt}
 
 -- the code of the first word
 abbrev pub first_word : ℕ

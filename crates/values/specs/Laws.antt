@@ -1,5 +1,5 @@
 -- What a kind of value shows.
-use Rattle.std.specs.Prelude.{◌≡◌, ℕ, ◌+◌, ◌<◌, ◌≤◌, Bool, true, false}
+use Rattle.std.specs.Prelude.{◌≡◌, ℕ, ◌+◌, ◌<◌, ◌≤◌, true, false}
 use Rattle.tokens.specs.Limits.{top_uses}
 use Rattle.values.specs.Readings.{Reading, zero_at, nil, in_bounds, suits}
 use Rattle.values.specs.Ops.{Ops, names, one, Stands}

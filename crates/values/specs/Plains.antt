@@ -1,5 +1,5 @@
 -- Plain numbers as a kind of value: count registers alone, no lists, an empty pool.
-use Rattle.std.specs.Prelude.{ℕ, Bool, true, false, List, [], ◌∷◌, ◌++◌, ℤ, pos, None, nat_le, nat_lt, unsigned_abs}
+use Rattle.std.specs.Prelude.{ℕ, true, false, ◌++◌, ℤ, pos, None, nat_le, nat_lt, unsigned_abs}
 use Rattle.std.specs.Fmt.{signed_decimal}
 use Rattle.tokens.specs.Limits.{top_number}
 use Rattle.tokens.specs.declared.class.Class.TheVariants.{Count}

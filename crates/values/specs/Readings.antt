@@ -1,5 +1,5 @@
 -- What registers read as.
-use Rattle.std.specs.Prelude.{ℕ, zero, suc, ◌+◌, Bool, true, false, cond, ◌&&◌, List, [], ◌∷◌, length, ℤ, pos, negsuc, Some, None, Option, ◌==◌, nat_le, unsigned_abs}
+use Rattle.std.specs.Prelude.{ℕ, ◌+◌, Bool, true, false, List, [], ◌∷◌, length, ℤ, pos, negsuc, Some, None, Option, ◌==◌, nat_le, unsigned_abs}
 use Rattle.tokens.specs.Codes.{all_codes}
 use Rattle.tokens.specs.Limits.{top_number, top_dimension}
 use Rattle.tokens.specs.declared.class.Class.{Class}

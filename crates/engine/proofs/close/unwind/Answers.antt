@@ -1,4 +1,4 @@
-use Rattle.std.proofs.Common.{◌≡◌, suc, ◌+◌, ◌-◌, ◌<◌, ◌≤◌, replicate, sym, ap, ◌∙◌, arith}
+use Rattle.std.proofs.Common.{◌<◌, ◌≤◌, replicate, ap, ◌∙◌, arith}
 use Rattle.output.specs.Text.{Out, told}
 use Rattle.output.specs.Writers.{out_of}
 use Rattle.save_stack.specs.Meanings.{stack_of}

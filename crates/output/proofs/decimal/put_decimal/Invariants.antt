@@ -1,4 +1,4 @@
-use Rattle.std.proofs.Common.{◌≡◌, ◌-◌, ◌<◌, ◌≤◌, ◌++◌, length, drop, decimal}
+use Rattle.std.proofs.Common.{◌≡◌, ◌≤◌, ◌++◌, length, drop, decimal}
 use Rattle.output.proofs.decimal.put_decimal.Given as goal
 
 abbrev pub invariant-loop-m : goal.invariant-loop-m

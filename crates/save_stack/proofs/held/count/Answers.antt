@@ -1,4 +1,4 @@
-use Rattle.std.proofs.Common.{◌≡◌, ℕ, ◌+◌, ◌-◌, List, ◌∷◌, reverse, length, take, sym, ap, ◌∙◌, arith}
+use Rattle.std.proofs.Common.{◌+◌, ◌-◌, ◌∷◌, reverse, take, ap, arith}
 use Rattle.save_stack.specs.Entries.{held_in}
 use Rattle.save_stack.proofs.Fronts.{held_used, held_turn}
 use Rattle.save_stack.proofs.held.count.Goals as goal

@@ -1,4 +1,4 @@
-use Rattle.std.proofs.Common.{◌≡◌, ℕ, ◌+◌, ◌-◌, ◌<◌, max, List, length, set, sym, ap, subst, arith}
+use Rattle.std.proofs.Common.{◌≡◌, ℕ, ◌+◌, ◌-◌, ◌<◌, max, List, length, set, sym, subst, arith}
 use Rattle.std.specs.List.{slice_get}
 use Rattle.sparse.specs.Listing.{behind}
 use Rattle.sparse.specs.Trees.{Tree, listed, width, Apart, Inside}

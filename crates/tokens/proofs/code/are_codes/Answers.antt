@@ -1,6 +1,6 @@
-use Rattle.std.proofs.Common.{◌≡◌, ◌+◌, Bool, ◌&&◌, get_or, drop, sym, ap, ◌∙◌}
+use Rattle.std.proofs.Common.{◌+◌, Bool, ◌&&◌, drop, sym, ap, ◌∙◌}
 use Rattle.std.proofs.lemmas.List.{at_drop_more, at_drop_all}
-use Rattle.tokens.specs.Codes.{is_code, all_codes}
+use Rattle.tokens.specs.Codes.{all_codes}
 use Rattle.tokens.proofs.code.are_codes.Goals as goal
 
 pub returns-then-not-is_code : goal.returns-then-not-is_code
