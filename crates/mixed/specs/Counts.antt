@@ -10,11 +10,12 @@ use Rattle.mixed.specs.Mixeds.{uses_of}
 abbrev pub unit : ℕ → ℕ → ℕ
 unit b c = cond (b == c) 1 0
 
--- a test that chose a number above 0 holds, and a number is itself
+-- a test that chose a number above 0 holds
 pub lit : (s : Bool) (n : ℕ) → 0 < cond s n 0 → s ≡ true
 lit true n h = refl
 lit false n h = absurd (omega arith)
 
+-- a number is itself
 pub self : (b : ℕ) → (b == b) ≡ true
 self b = eq-eqb b b refl
 
@@ -53,6 +54,7 @@ made_uses m b c t ts off = elim (cases_Bool (b == c)) [
 pub made_there : (m : PoolModel) (b c t : ℕ) (ts : List ℕ) → (b == c) ≡ true → there (made m b (t ∷ ts)) c ≡ true
 made_there m b c t ts e = simp e (lt-ltb 0 (length (t ∷ ts)) (omega arith))
 
+-- a list made leaves the tokens of those that were there
 pub made_list : (m : PoolModel) (b c : ℕ) (ts : List ℕ) → there m b ≡ false → there m c ≡ true → (made m b ts).list c ≡ m.list c
 made_list m b c ts off on = elim (cases_Bool (b == c)) [
   | inl e ↦ let q : b ≡ c = eqb-true b c e in absurd (both_ways (there m c) (rw (← q) off) on)
@@ -88,11 +90,12 @@ taken_count m b c on few = elim (cases_Bool (b == c)) [
       omega arith
 ]
 
--- and leaves the lists
+-- a changed count leaves the tokens of every list
 cond_list : (s : Bool) (m : PoolModel) (b c n : ℕ) → (cond s (recount m b n) m).list c ≡ m.list c
 cond_list true m b c n = refl
 cond_list false m b c n = refl
 
+-- a use taken leaves them, too
 pub taken_list : (m : PoolModel) (b c : ℕ) → (taken m b).list c ≡ m.list c
 taken_list m b c = cond_list (takes m b) m b c (m.count b + 1)
 
@@ -146,6 +149,7 @@ removed_list m b c u = elim (cases_Bool (b == c)) [
   | inr e ↦ cond-false _ _ _ e
 ]
 
+-- a use dropped leaves the tokens of the lists that stay
 pub dropped_list : (m : PoolModel) (b c : ℕ) → there (dropped m b) c ≡ true → (dropped m b).list c ≡ m.list c
 dropped_list m b c u = elim (cases_Bool (there m b)) [
   | inl on ↦ elim (cases_Bool (nat_le (m.count b) 1)) [

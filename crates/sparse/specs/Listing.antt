@@ -1,11 +1,17 @@
 -- Nodes in the order of their places, and what stands at a place.
 use Rattle.std.specs.Prelude.{ℕ, ◌+◌, ◌≤◌, cond, List, [], ◌∷◌, Some, None, Option, ◌==◌, ◌≢◌, nat_le, nat_lt}
 use Rattle.stores.specs.declared.cell.Cell.{Cell}
+use Rattle.stores.specs.Cells.{cell}
 use Rattle.sparse.specs.declared.node.Node.{Node}
+use Rattle.sparse.specs.declared.node.Tip.{Tip}
 
 -- a cell at a place
 abbrev pub node : {V : Type 0} → ℕ → Cell V → Node V
 node p c = record { place = p; cell = c }
+
+-- a node to hand over, of which nothing is used but the room that it takes
+abbrev pub empty_tip : {V : Type 0} → V → Tip V
+empty_tip zero = record { node = node 0 (cell zero 1); left = 0; right = 0 }
 
 -- each place is past the one before, the first at or past lo and the last before hi
 abbrev pub Ascends : {V : Type 0} → ℕ → ℕ → List (Node V) → Type 0

@@ -1,4 +1,7 @@
 //! What the sparse store is made of.
+ghost use Rattle.std.specs.Prelude.{◌≡◌};
+ghost use Rattle.sparse.specs.Listing.{empty_tip};
+
 use stores::cell::Cell;
 use values::value::Value;
 
@@ -19,7 +22,9 @@ pub struct Tip<V> {
 
 impl<V: Value> Tip<V> {
     /// A node to hand over to a store.
-    pub fn empty() -> Self {
+    pub fn empty() -> Self
+        ensures { result ≡ empty_tip V.Value.ops.zero }
+    {
         let cell = Cell {
             value: V::zero(),
             level: 1,
