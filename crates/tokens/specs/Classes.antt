@@ -1,14 +1,19 @@
 -- The classes of registers.
 use Rattle.std.specs.Prelude.{ℕ, Bool, true, false, List}
-use Rattle.tokens.specs.Words.{word_text}
+use Rattle.tokens.specs.Words.{word_code, word_text}
 use Rattle.tokens.specs.declared.class.Class.{Class}
+use Rattle.tokens.specs.declared.word.ControlWord.{ControlWord}
 use Rattle.tokens.specs.declared.class.Class.TheVariants.{Count, Dimen, Toks}
 
--- the code of the word that names a register of the class
+-- the word that names a register of the class
+abbrev pub class_word : Class → ControlWord
+class_word Count = ControlWord.Count
+class_word Dimen = ControlWord.Dimen
+class_word Toks = ControlWord.Toks
+
+-- its code
 abbrev pub class_code : Class → ℕ
-class_code Count = 262
-class_code Dimen = 263
-class_code Toks = 264
+class_code c = word_code (class_word c)
 
 -- that word
 abbrev pub class_name : Class → List ℕ

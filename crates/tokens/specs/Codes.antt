@@ -1,5 +1,6 @@
 -- The codes of tokens: a byte's code is the byte, and the words follow from 256 on.
-use Rattle.std.specs.Prelude.{ℕ, ◌+◌, Bool, true, cond, not, ◌&&◌, List, [], ◌∷◌, ◌==◌, nat_le, nat_lt}
+use Rattle.std.specs.Prelude.{ℕ, ◌+◌, Bool, cond, not, ◌&&◌, List, ◌==◌, nat_le, nat_lt}
+use Rattle.std.specs.List.{list_all}
 
 -- the code of the first word
 abbrev pub first_word : ℕ
@@ -15,5 +16,4 @@ is_code c = cond (nat_lt c first_word) (nat_le 32 c && (nat_le c 126 && not (c =
 
 -- a list of such codes
 abbrev pub all_codes : List ℕ → Bool
-all_codes [] = true
-all_codes (c ∷ cs) = is_code c && all_codes cs
+all_codes cs = list_all is_code cs

@@ -4,3 +4,4 @@ pub mod Refusals
 pub mod Codes
 pub mod Words
 pub mod Classes
+pub mod Copies

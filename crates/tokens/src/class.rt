@@ -1,11 +1,11 @@
 //! The classes of registers.
 ghost use Rattle.std.specs.Prelude.{◌≡◌};
-ghost use Rattle.tokens.specs.Classes.{class_code, class_name, is_list};
+ghost use Rattle.tokens.specs.Classes.{class_word, class_code, class_name, is_list};
 
-use crate::word::word;
+use crate::word::{ControlWord, word};
 
 /// What a register holds.
-#[derive(Clone, Copy)]
+#[derive(Clone, Copy, PartialEq, Eq, Debug)]
 pub enum Class {
     /// A number.
     Count,
@@ -16,18 +16,25 @@ pub enum Class {
 }
 
 impl Class {
-    /// The code of the word by which a text names a register of the class.
-    pub fn code(self) -> u16
-        ensures { result ≡ class_code self }
+    /// The word by which a text names a register of the class.
+    pub fn word(self) -> ControlWord
+        ensures { result ≡ class_word self }
     {
         match self {
-            Class::Count => 262,
-            Class::Dimen => 263,
-            Class::Toks => 264,
+            Class::Count => ControlWord::Count,
+            Class::Dimen => ControlWord::Dimen,
+            Class::Toks => ControlWord::Toks,
         }
     }
 
-    /// That word, without its backslash.
+    /// The code of that word.
+    pub fn code(self) -> u16
+        ensures { result ≡ class_code self }
+    {
+        self.word().code()
+    }
+
+    /// The letters of that word, without its backslash.
     pub fn name(self) -> &'static [u8]
         ensures { result.now ≡ class_name self }
     {

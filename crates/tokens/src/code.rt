@@ -1,4 +1,6 @@
 //! The codes of tokens.
+//!
+//! A code is a number, and no type that has codes alone: one that is handed in and is none is refused as out of bounds.
 ghost use Rattle.std.specs.Prelude.{◌≡◌};
 ghost use Rattle.tokens.specs.Codes.{is_code, all_codes};
 
@@ -14,6 +16,7 @@ pub const FIRST_WORD: u16 = 256;
 pub const WORD_COUNT: u16 = 12;
 
 /// Whether it is the code of a token of the language.
+#[tactic(auto, unfolding(crate::specs::Codes::is_code))]
 pub fn is_code(code: u16) -> bool
     ensures { result ≡ is_code code }
 {
@@ -28,10 +31,5 @@ pub fn is_code(code: u16) -> bool
 pub fn are_codes(codes: &[u16]) -> bool
     ensures { result ≡ all_codes codes.now }
 {
-    for code in codes {
-        if !is_code(*code) {
-            return false;
-        }
-    }
-    true
+    codes.iter().all(|&code| is_code(code))
 }

@@ -1,9 +1,9 @@
 //! Groups: their kinds, and what closes each.
 ghost use Rattle.std.specs.Prelude.{◌≡◌};
-ghost use Rattle.tokens.specs.Groups.{kind_name, closed_by, same_kind};
+ghost use Rattle.tokens.specs.Groups.{kind_name, closed_by};
 
 /// What a group is, by what opened it.
-#[derive(Clone, Copy)]
+#[derive(Clone, Copy, PartialEq, Eq, Debug)]
 pub enum GroupKind {
     /// `{`
     Simple,
@@ -16,7 +16,7 @@ pub enum GroupKind {
 }
 
 /// A token that closes a group.
-#[derive(Clone, Copy)]
+#[derive(Clone, Copy, PartialEq, Eq, Debug)]
 pub enum Closer {
     /// `}`
     Brace,
@@ -27,7 +27,7 @@ pub enum Closer {
 }
 
 /// A group: its kind, and the line at which it was opened, or 0.
-#[derive(Clone, Copy)]
+#[derive(Clone, Copy, PartialEq, Eq, Debug)]
 pub struct Group {
     pub kind: GroupKind,
     pub line: u16,
@@ -40,6 +40,7 @@ pub struct ClosedBy {
 }
 
 /// For each kind of group, in their order, what closes it.
+// Kept: a table, and no `match`: which closer closes what stands in one place, row by row.
 pub const CLOSED_BY: [ClosedBy; 4] = [
     ClosedBy {
         closers: [true, false, false],
@@ -73,12 +74,5 @@ impl GroupKind {
         ensures { result ≡ closed_by self closer }
     {
         CLOSED_BY[self as usize].closers[closer as usize]
-    }
-
-    /// Whether both are the same kind.
-    pub fn is(self, other: GroupKind) -> bool
-        ensures { result ≡ same_kind self other }
-    {
-        self as u8 == other as u8
     }
 }

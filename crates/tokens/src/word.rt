@@ -1,10 +1,28 @@
 //! The words of the language, by their codes.
-ghost use Rattle.std.specs.Prelude.{◌≡◌, [], slice_index_or};
-ghost use Rattle.tokens.specs.Words.{words, word_text};
+ghost use Rattle.std.specs.Prelude.{◌≡◌};
+ghost use Rattle.tokens.specs.Words.{word_code, word_text};
 
 use crate::code::FIRST_WORD;
 
-/// The words, in the order of their codes from `FIRST_WORD` on.
+/// A word of the language. Their codes follow one another from `FIRST_WORD` on, in this order.
+#[derive(Clone, Copy, PartialEq, Eq, Debug)]
+pub enum ControlWord {
+    BeginGroup,
+    EndGroup,
+    Hbox,
+    Cell,
+    EndCell,
+    Global,
+    Count,
+    Dimen,
+    Toks,
+    AfterGroup,
+    The,
+    Relax,
+}
+
+/// The letters of the words, in the order of their codes.
+// Kept: a table beside the enum, since a word's letters are looked up by its code.
 pub const WORDS: [&[u8]; 12] = [
     b"begingroup",
     b"endgroup",
@@ -20,20 +38,24 @@ pub const WORDS: [&[u8]; 12] = [
     b"relax",
 ];
 
-/// The letters of the word at an index of the table; none past its end.
-fn word_at(i: usize) -> &'static [u8]
-    ensures { result.now ≡ slice_index_or words i [] }
-{
-    if i < WORDS.len() { WORDS[i] } else { b"" }
+impl ControlWord {
+    /// The code of the word.
+    pub fn code(self) -> u16
+        ensures { result ≡ word_code self }
+    {
+        FIRST_WORD + self as u16
+    }
 }
 
 /// The letters of the word of a code; none for a code that is no word's.
 pub fn word(code: u16) -> &'static [u8]
     ensures { result.now ≡ word_text code }
 {
-    if code < FIRST_WORD {
-        b""
-    } else {
-        word_at((code - FIRST_WORD) as usize)
+    let Some(place) = code.checked_sub(FIRST_WORD) else {
+        return b"";
+    };
+    match WORDS.get(usize::from(place)) {
+        Some(letters) => letters,
+        None => b"",
     }
 }
