@@ -1,10 +1,13 @@
 -- Turns of the loops that read and print digits.
-use Rattle.std.proofs.Common.{◌≡◌, ℕ, suc, ◌+◌, ◌-◌, ◌*◌, ◌/◌, ◌%◌, ◌^◌, ◌<◌, ◌≤◌, min, Bool, true, false, leb, List, [], ◌∷◌, ◌++◌, length, take, set, sym, refl, ap, ◌∙◌, append_assoc, mul_comm, pow-suc, add-one, arith, lit<, le-leb}
+use Rattle.std.proofs.Common.{◌≡◌, ℕ, suc, ◌+◌, ◌-◌, ◌*◌, ◌/◌, ◌%◌, ◌^◌, ◌<◌, ◌≤◌, min, Bool, true, false, cond, leb, ltb, List, [], ◌∷◌, ◌++◌, length, decimal, sym, refl, ap, ◌∙◌, append_assoc, mul_comm, pow-suc, add-one, arith, lit<, le-leb}
 use native.Mathlib.Nat.{pow-le-pow_right}
 use native.Mathlib.Decide.{dec_lt}
 use borrow.Author.Tests.{lt-leb}
-use Rattle.std.proofs.lemmas.List.{take_more_set, map_push, nil_from_length}
-use Rattle.dimensions.specs.DigitLoops.{gathered, eased, digits_of}
+use Rattle.std.proofs.lemmas.List.{map_push, nil_from_length}
+use Rattle.std.proofs.lemmas.Fmt.{decimal_digit}
+use Rattle.output.specs.Text.{Out}
+use Rattle.output.proofs.Pieces.{Stands}
+use Rattle.dimensions.specs.DigitLoops.{eased, digits_of}
 use Rattle.dimensions.specs.Dimensions.{shown}
 use Rattle.dimensions.specs.Fractions.{capped}
 
@@ -13,17 +16,9 @@ abbrev pub onward : ℕ → List ℕ → ℕ
 onward a [] = a
 onward a (d ∷ ds) = (onward a ds + d * 131072) / 10
 
-from_start : (ds : List ℕ) → onward 0 ds ≡ gathered ds
-from_start [] = refl
-from_start (d ∷ ds) = ap (λ (x : ℕ). (x + d * 131072) / 10) (from_start ds)
-
 onward_push : (a x : ℕ) (ds : List ℕ) → onward a (ds ++ (x ∷ [])) ≡ onward ((a + x * 131072) / 10) ds
 onward_push a x [] = refl
 onward_push a x (d ∷ ds) = ap (λ (y : ℕ). (y + d * 131072) / 10) (onward_push a x ds)
-
--- before the first digit
-pub at_start : (bs all : List ℕ) → bs ≡ all → onward 0 (capped bs) ≡ gathered (capped all)
-at_start bs all e = from_start (capped bs) ∙ ap (λ (z : List ℕ). gathered (capped z)) e
 
 -- one digit read, the last of those that were left
 pub one_read : (a b x all : ℕ) (bs left : List ℕ) → x ≡ min b 9 → bs ≡ left ++ (b ∷ []) → onward a (capped bs) ≡ all → onward ((a + x * 131072) / 10) (capped left) ≡ all
@@ -46,28 +41,43 @@ unrolled k s d t h e =
     ap (λ (n : ℕ). shown (digits_of n s d)) f
     ∙ ap (λ (u : ℕ). (48 + u / 65536) ∷ shown (rest (10 - (k + 1)) (10 * (u % 65536)) (10 * d) (leb (10 * (u % 65536)) (10 * d)))) (sym e)
 
+-- rounding takes nothing below what is left
+eased_within : (s d : ℕ) → eased s d ≤ s
+eased_within s d = elim (ltb 65536 d) as (λ (b : Bool). cond b (s - 17232) s ≤ s) [ true ↦ omega arith | false ↦ omega arith ]
+
+-- what is left has one whole digit
+pub one_digit : (s d t : ℕ) → s ≤ 655355 → t ≡ eased s d → decimal (t / 65536) ≡ (48 + t / 65536) ∷ []
+one_digit s d t h e = decimal_digit (t / 65536) (omega (arith, eased_within s d))
+
+-- the digits that are written, and those that are to come
+pub record Half (o s : Out) (all : List ℕ) (left precision : ℕ) : Type 0 where
+  pub turns : ℕ
+  pub done : List ℕ
+  pub few : turns < 5
+  pub power : precision ≡ 10 ^ (turns + 1)
+  pub written : Stands done o s
+  pub together : done ++ shown (digits_of (10 - turns) left precision) ≡ all
+
 -- the last digit
-pub last : (k s d t : ℕ) (buf all : List ℕ) → k < 5 → length buf ≡ 5 → t ≡ eased s d → 10 * (t % 65536) ≤ d * 10
-    → take k buf ++ shown (digits_of (10 - k) s d) ≡ all → take (k + 1) (set buf k (48 + t / 65536)) ≡ all
-last k s d t buf all h l e g i =
+pub last : (k s d t : ℕ) (done all : List ℕ) → k < 5 → t ≡ eased s d → 10 * (t % 65536) ≤ d * 10
+    → done ++ shown (digits_of (10 - k) s d) ≡ all → done ++ ((48 + t / 65536) ∷ []) ≡ all
+last k s d t done all h e g i =
     let x = 48 + t / 65536 in
-    take_more_set buf k x (omega arith)
-    ∙ ap (λ (z : List ℕ). take k buf ++ z)
+    ap (λ (z : List ℕ). done ++ z)
     (sym (unrolled k s d t h e ∙ ap (λ (b : Bool). x ∷ shown (rest (10 - (k + 1)) (10 * (t % 65536)) (10 * d) b)) (le-leb (10 * (t % 65536)) (10 * d) (omega arith))))
     ∙ i
 
 -- a digit, and more to come
-pub turn : (k s d t : ℕ) (buf all : List ℕ) → k < 5 → length buf ≡ 5 → t ≡ eased s d → d * 10 < 10 * (t % 65536)
-    → take k buf ++ shown (digits_of (10 - k) s d) ≡ all
-    → take (k + 1) (set buf k (48 + t / 65536)) ++ shown (digits_of (10 - (k + 1)) (10 * (t % 65536)) (d * 10)) ≡ all
-turn k s d t buf all h l e g i =
+pub turn : (k s d t : ℕ) (done all : List ℕ) → k < 5 → t ≡ eased s d → d * 10 < 10 * (t % 65536)
+    → done ++ shown (digits_of (10 - k) s d) ≡ all
+    → (done ++ ((48 + t / 65536) ∷ [])) ++ shown (digits_of (10 - (k + 1)) (10 * (t % 65536)) (d * 10)) ≡ all
+turn k s d t done all h e g i =
     let x = 48 + t / 65536 in
     let s' = 10 * (t % 65536) in
     let more = λ (n : ℕ). shown (digits_of (10 - (k + 1)) s' n) in
-    ap (λ (z : List ℕ). z ++ more (d * 10)) (take_more_set buf k x (omega arith))
-    ∙ append_assoc (take k buf) (x ∷ []) (more (d * 10))
-    ∙ ap (λ (n : ℕ). take k buf ++ (x ∷ more n)) (mul_comm d 10)
-    ∙ ap (λ (z : List ℕ). take k buf ++ z)
+    append_assoc done (x ∷ []) (more (d * 10))
+    ∙ ap (λ (n : ℕ). done ++ (x ∷ more n)) (mul_comm d 10)
+    ∙ ap (λ (z : List ℕ). done ++ z)
     (sym (unrolled k s d t h e ∙ ap (λ (b : Bool). x ∷ shown (rest (10 - (k + 1)) s' (10 * d) b)) (lt-leb s' (10 * d) (omega arith))))
     ∙ i
 

@@ -13,12 +13,9 @@ use output::writer::Writer;
 pub fn put_dimension(to: &mut [u8], n: i32) -> Put
     ensures { Piece (dimension n) to.old to.new result.size result.whole }
 {
-    let mut at = Writer { mark: 0, lost: 0 };
-    let whole = write_dimension(&mut at, to, n);
-    Put {
-        size: at.mark,
-        whole,
-    }
+    let mut writer = Writer::new();
+    let whole = write_dimension(&mut writer, to, n);
+    writer.into_put(whole)
 }
 
 /// What fits of the dimension of `n` scaled points, from the mark on; whether all of it fitted.
@@ -35,7 +32,7 @@ pub fn write_dimension(writer: &mut Writer, out: &mut [u8], n: i32) -> bool
 fn write_points(writer: &mut Writer, out: &mut [u8], size: u32) -> bool
     ensures { Added (points size) (out_of writer.old out.old) (out_of writer.new out.new) result }
 {
-    writer.decimal(out, size / POINT);
+    writer.number(out, size / POINT);
     writer.text(out, b".");
     write_fraction(writer, out, size);
     writer.text(out, b"pt")
@@ -45,30 +42,27 @@ fn write_points(writer: &mut Writer, out: &mut [u8], size: u32) -> bool
 fn write_fraction(writer: &mut Writer, out: &mut [u8], size: u32) -> bool
     ensures { Added (shown (fraction (size % 65536))) (out_of writer.old out.old) (out_of writer.new out.new) result }
 {
-    let mut digits = [0u8; 5];
-    let mut k = 0;
-    let mut s = 10 * (size % POINT) + 5;
-    let mut d = 10;
+    // The loop of section 103 of TeX: The Program, where each digit goes out as it comes.
+    let mut left = 10 * (size % POINT) + 5;
+    let mut precision = 10;
     loop {
-        let t = ease(s, d);
-        digits[k] = b'0' + (t / POINT) as u8;
-        k += 1;
-        s = 10 * (t % POINT);
-        d *= 10;
-        if s <= d {
-            break;
+        let rounded = ease(left, precision);
+        let whole = writer.number(out, rounded / POINT);
+        left = 10 * (rounded % POINT);
+        precision *= 10;
+        if left <= precision {
+            return whole;
         }
     }
-    writer.text(out, &digits[..k])
 }
 
 /// What is left to print, rounded where the next digit is the last: there TeX takes 50,000 off and puts 32,768 back.
-fn ease(s: u32, d: u32) -> u32
-    ensures { result ≡ eased s d }
+fn ease(left: u32, precision: u32) -> u32
+    ensures { result ≡ eased left precision }
 {
-    if d > POINT {
-        s.saturating_sub(17232)
+    if precision > POINT {
+        left.saturating_sub(17_232)
     } else {
-        s
+        left
     }
 }

@@ -2,29 +2,21 @@
 ghost use Rattle.dimensions.specs.Promises.{RoundsToNearest, TexRounds, ReadsBack, DimensionReadsBack};
 
 /// The digits of a fraction read as the nearest scaled point, ties upward.
-pub fn rounds_to_nearest() -> u8
+pub fn rounds_to_nearest()
     ensures { RoundsToNearest }
-{
-    0
-}
+{}
 
 /// TeX's loop, section 102 of TeX: The Program, reads every fraction as the same.
-pub fn tex_rounds() -> u8
+pub fn tex_rounds()
     ensures { TexRounds }
-{
-    0
-}
+{}
 
 /// Every fraction of a point prints as one to five digits, which read back as it.
-pub fn reads_back() -> u8
+pub fn reads_back()
     ensures { ReadsBack }
-{
-    0
-}
+{}
 
 /// Every dimension that is printed reads back as it.
-pub fn dimension_reads_back() -> u8
+pub fn dimension_reads_back()
     ensures { DimensionReadsBack }
-{
-    0
-}
+{}

@@ -1,8 +1,11 @@
 -- Parts of a line, one behind the other.
 use Rattle.std.proofs.Common.{◌≡◌, ℕ, zero, suc, ◌+◌, ◌-◌, ◌<◌, ◌≤◌, min, Bool, true, false, leb, ◌⊎◌, List, [], ◌∷◌, ◌++◌, length, take, drop, sym, refl, ap, ◌∙◌, subst, inl, inr, arith, length-append, length-drop, take-append-drop, le-leb, leb-false, leb-true}
 use borrow.Author.Tests.{lt-leb}
+use Rattle.std.proofs.Math.Seq.{take-nil, drop-nil}
 use Rattle.std.proofs.lemmas.Bool.Decides.{nat_tests}
 use Rattle.output.specs.Text.{Out, Piece, Added, laid, fits, during}
+use Rattle.output.specs.Writers.{out_of, fresh}
+use Rattle.output.specs.declared.writer.Writer.{Writer}
 use Rattle.output.proofs.Rooms.{laid_none, length_over, out_is}
 
 -- two texts laid one behind the other are the joined text
@@ -14,19 +17,11 @@ laid_laid (x ∷ a) b [] (suc k) e = absurd (omega arith)
 laid_laid (x ∷ a) b (y ∷ r) zero e = absurd (omega arith)
 laid_laid (x ∷ a) b (y ∷ r) (suc k) e = ap (λ (z : List ℕ). x ∷ z) (laid_laid a b r k (omega arith))
 
-drop_none : (k : ℕ) → drop {A = ℕ} k [] ≡ []
-drop_none zero = refl
-drop_none (suc k) = refl
-
-take_none : (k : ℕ) → take {A = ℕ} k [] ≡ []
-take_none zero = refl
-take_none (suc k) = refl
-
 empty_room : (a b r : List ℕ) (k : ℕ) → r ≡ [] → take k (laid a r) ++ laid b (drop k (laid a r)) ≡ laid (a ++ b) r
 empty_room a b r k e =
     ap (λ (z : List ℕ). take k (laid a z) ++ laid b (drop k (laid a z))) e
     ∙ ap (λ (z : List ℕ). take k z ++ laid b (drop k z)) (laid_none a)
-    ∙ ap (λ (z : List ℕ). z ++ laid b (drop k [])) (take_none k) ∙ ap (laid b) (drop_none k) ∙ laid_none b
+    ∙ ap (λ (z : List ℕ). z ++ laid b (drop k [])) (take-nil k) ∙ ap (laid b) (drop-nil k) ∙ laid_none b
     ∙ sym (laid_none (a ++ b)) ∙ ap (laid (a ++ b)) (sym e)
 
 over : (m : ℕ) (bs a b : List ℕ) (k : ℕ) → k ≡ m + min (length a) (length bs - m)
@@ -121,3 +116,9 @@ printed {t = t} {to = to} p =
       whole_is = p.whole_is ∙ ap (λ (z : ℕ). leb (length t) z) (omega arith);
       laid_is = ap (λ (z : Out). z.bytes) p.wrote_is;
     }
+
+-- what a printer answers that wrote with a new writer
+pub answered : {t to ys : List ℕ} {k : ℕ} {b r : Bool} {w w' : Writer} → w ≡ fresh → k ≡ w'.mark → b ≡ r → Added t (out_of w to) (out_of w' ys) r → Piece t to ys k b
+answered {t = t} {to = to} {ys = ys} {r = r} {w' = w'} new size whole p =
+    let q = printed (subst (λ (z : Writer). Added t (out_of z to) (out_of w' ys) r) new p) in
+    record { length_is = size ∙ q.length_is; whole_is = whole ∙ q.whole_is; laid_is = q.laid_is }

@@ -1,5 +1,5 @@
 -- Texts laid over a room, and a room that is the rest of an output.
-use Rattle.std.proofs.Common.{◌≡◌, ℕ, zero, suc, ◌+◌, ◌-◌, ◌<◌, ◌≤◌, min, Bool, leb, List, [], ◌∷◌, ◌++◌, length, take, drop, set, sym, refl, ap, ◌∙◌, subst, ⊎_elim, append-nil, arith, length-append, length-drop, length-take}
+use Rattle.std.proofs.Common.{◌≡◌, ℕ, zero, suc, ◌+◌, ◌-◌, ◌<◌, ◌≤◌, min, Bool, leb, List, [], ◌∷◌, ◌++◌, length, take, drop, sym, refl, ap, ◌∙◌, ⊎_elim, append-nil, arith, length-append, length-drop, length-take}
 use borrow.Rule.Slice.PartMut.{put_mid, Post-is}
 use Rattle.std.proofs.lemmas.List.{drop_all, take_all}
 use Rattle.std.proofs.lemmas.Slice.{between_to_end}
@@ -66,21 +66,3 @@ added {text = text} {ys = ys} a m l bs h p =
       whole_is = p.whole_is ∙ ap (λ (z : ℕ). leb (length text) z) (r ∙ n);
       wrote_is = out_is (e ∙ clamped a m bs text h) (omega (arith, p.length_is)) refl;
     }
-
--- how far a printer that was lent the rest of the output came
-pub put_within : {k : ℕ} {r : Bool} {text ys : List ℕ} (a m : ℕ) (bs : List ℕ) → a ≡ min m (length bs)
-    → Piece text (take (length bs - a) (drop a bs)) ys k r → k ≤ length bs - m
-put_within a m bs h p = omega (arith, p.length_is, room a bs)
-
-set_drop : (j x : ℕ) (xs : List ℕ) → j < length xs → drop j (set xs j x) ≡ x ∷ drop (suc j) xs
-set_drop j x [] h = absurd (omega arith)
-set_drop zero x (y ∷ ys) h = refl
-set_drop (suc j) x (y ∷ ys) h = set_drop j x ys (omega arith)
-
--- one more byte in front of what stands from i on
-pub front : (i x : ℕ) (xs : List ℕ) → 1 ≤ i → i ≤ length xs → drop (i - 1) (set xs (i - 1) x) ≡ x ∷ drop i xs
-front i x xs h k = let a = set_drop (i - 1) x xs (omega arith) in let e : suc (i - 1) ≡ i = omega arith in cc
-
--- the same text and room under other names
-pub said : {t u to to' ys : List ℕ} {k : ℕ} {r : Bool} → t ≡ u → to ≡ to' → Piece t to ys k r → Piece u to' ys k r
-said {u = u} {to = to} {ys = ys} {k = k} {r = r} e f p = subst (λ (z : List ℕ). Piece u z ys k r) f (subst (λ (z : List ℕ). Piece z to ys k r) e p)

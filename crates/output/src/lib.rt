@@ -1,6 +1,5 @@
-//! Text in lent memory: printers that fill a room as far as it goes, and the writer that hands them the rest of an output.
+//! Text in lent memory: a printer fills a room as far as it goes, and the writer hands it the rest of an output.
 #![tactic(auto)]
 
-pub mod decimal;
 pub mod room;
 pub mod writer;

@@ -2,6 +2,7 @@
 ghost use Rattle.output.specs.Text.{Piece};
 
 /// What a printer wrote: how many bytes, and whether its text fitted whole.
+// Kept: no Option or Result of the size, since the size counts also where the text was cut: the mark moves by it.
 #[derive(Clone, Copy)]
 pub struct Put {
     pub size: usize,
@@ -12,8 +13,8 @@ pub struct Put {
 pub fn put_text(to: &mut [u8], text: &[u8]) -> Put
     ensures { Piece text.now to.old to.new result.size result.whole }
 {
+    let size = text.len().min(to.len());
     let whole = text.len() <= to.len();
-    let size = if whole { text.len() } else { to.len() };
-    to[0..size].copy_from_slice(&text[0..size]);
+    to[..size].copy_from_slice(&text[..size]);
     Put { size, whole }
 }

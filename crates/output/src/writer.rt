@@ -1,13 +1,13 @@
 //! The writer: how far an output is filled. The output itself is lent to each call beside it.
-ghost use Rattle.std.specs.Prelude.{◌≡◌, decimal};
-ghost use Rattle.std.specs.Fmt.{signed_decimal};
+ghost use Rattle.std.specs.Prelude.{◌≡◌};
 ghost use Rattle.output.specs.Text.{Added};
 ghost use Rattle.output.specs.Writers.{out_of, fresh};
 
-use crate::decimal::{put_decimal, put_signed};
-use crate::room::put_text;
+use crate::room::{Put, put_text};
+use itoa::{Buffer, Integer};
 
 /// The fill mark of an output, and how many lines were lost for want of room.
+// Kept: a plain record that travels beside the output, and not a struct that holds it: the output stays the caller's own, lent anew to each call.
 #[derive(Drop)]
 pub struct Writer {
     pub mark: usize,
@@ -26,32 +26,28 @@ impl Writer {
     pub fn text(&mut self, out: &mut [u8], text: &[u8]) -> bool
         ensures { Added text.now (out_of self.old out.old) (out_of self.new out.new) result }
     {
-        let mark = self.mark;
-        let start = mark.min(out.len());
+        let start = self.mark.min(out.len());
         let put = put_text(&mut out[start..], text);
-        self.mark = mark + put.size;
+        self.mark += put.size;
         put.whole
     }
 
-    /// The number in decimal, likewise.
-    pub fn decimal(&mut self, out: &mut [u8], n: u32) -> bool
-        ensures { Added (decimal n) (out_of self.old out.old) (out_of self.new out.new) result }
+    /// The number in decimal, likewise; a negative one after its sign.
+    // Kept: no `write!`, whose contract says nothing of a text that does not fit.
+    pub fn number<I: Integer>(&mut self, out: &mut [u8], n: I) -> bool
+        ensures { Added (I.text n) (out_of self.old out.old) (out_of self.new out.new) result }
     {
-        let mark = self.mark;
-        let start = mark.min(out.len());
-        let put = put_decimal(&mut out[start..], n);
-        self.mark = mark + put.size;
-        put.whole
+        self.text(out, Buffer::new().format(n).as_bytes())
     }
 
-    /// The number in decimal with its sign, likewise.
-    pub fn signed(&mut self, out: &mut [u8], n: i32) -> bool
-        ensures { Added (signed_decimal n) (out_of self.old out.old) (out_of self.new out.new) result }
+    /// What a printer answers that wrote with a new writer from the start of its room.
+    pub fn into_put(self, whole: bool) -> Put
+        ensures size { result.size ≡ self.mark }
+        ensures whole { result.whole ≡ whole }
     {
-        let mark = self.mark;
-        let start = mark.min(out.len());
-        let put = put_signed(&mut out[start..], n);
-        self.mark = mark + put.size;
-        put.whole
+        Put {
+            size: self.mark,
+            whole,
+        }
     }
 }

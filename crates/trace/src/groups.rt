@@ -2,60 +2,63 @@
 ghost use Rattle.std.specs.Prelude.{◌≡◌};
 ghost use Rattle.output.specs.Text.{wrote, stands};
 ghost use Rattle.output.specs.Writers.{out_of};
-ghost use Rattle.trace.specs.Lines.{group_text, entering, leaving};
+ghost use Rattle.trace.specs.Lines.{group_verb, place_words, group_line};
 
 use crate::line::Line;
 use crate::parts::{write_level, write_place};
 use output::writer::Writer;
 use tokens::group::Group;
 
-/// `{entering simple group (level 1) at line 2}`, where the level inside the group is 2; whether the line stands.
-pub fn entering(writer: &mut Writer, out: &mut [u8], group: Group, level: u8) -> bool
-    ensures result { result ≡ stands (out_of writer.old out.old) (entering group level) }
-    ensures wrote { out_of writer.new out.new ≡ wrote (out_of writer.old out.old) (entering group level) }
-{
-    group_line(writer, out, b"{entering ", group, level, b" at line ")
+/// What happens to a group.
+#[derive(Clone, Copy)]
+pub enum GroupEvent {
+    /// It begins.
+    Entering,
+    /// It ends.
+    Leaving,
 }
 
-/// `{leaving simple group (level 1) entered at line 2}`, where the level inside the group is 2; whether the line stands.
-pub fn leaving(writer: &mut Writer, out: &mut [u8], group: Group, level: u8) -> bool
-    ensures result { result ≡ stands (out_of writer.old out.old) (leaving group level) }
-    ensures wrote { out_of writer.new out.new ≡ wrote (out_of writer.old out.old) (leaving group level) }
-{
-    group_line(
-        writer,
-        out,
-        b"{leaving ",
-        group,
-        level,
-        b" entered at line ",
-    )
+impl GroupEvent {
+    /// What its line begins with.
+    fn verb(self) -> &'static [u8]
+        ensures { result.now ≡ group_verb self }
+    {
+        match self {
+            GroupEvent::Entering => b"{entering ",
+            GroupEvent::Leaving => b"{leaving ",
+        }
+    }
+
+    /// The words before the number of the line at which the group was opened.
+    fn place_words(self) -> &'static [u8]
+        ensures { result.now ≡ place_words self }
+    {
+        match self {
+            GroupEvent::Entering => b" at line ",
+            GroupEvent::Leaving => b" entered at line ",
+        }
+    }
 }
 
-fn group_line(
+/// `{entering simple group (level 1) at line 2}` or `{leaving simple group (level 1) entered at line 2}`, where the level inside the group is 2; whether the line stands.
+pub fn group_line(
     writer: &mut Writer,
     out: &mut [u8],
-    verb: &[u8],
+    event: GroupEvent,
     group: Group,
     level: u8,
-    words: &[u8],
 ) -> bool
-    ensures result { result ≡ stands (out_of writer.old out.old) (group_text verb.now group level words.now) }
-    ensures wrote { out_of writer.new out.new ≡ wrote (out_of writer.old out.old) (group_text verb.now group level words.now) }
+    ensures result { result ≡ stands (out_of writer.old out.old) (group_line event group level) }
+    ensures wrote { out_of writer.new out.new ≡ wrote (out_of writer.old out.old) (group_line event group level) }
 {
-    let start = writer.mark;
-    let mut entry = Line {
-        writer,
-        start,
-        done: false,
-    };
+    let mut entry = Line::begin(writer);
     if entry.writer.lost > 0 {
         return false;
     }
-    entry.writer.text(out, verb);
+    entry.writer.text(out, event.verb());
     entry.writer.text(out, group.kind.name());
     write_level(entry.writer, out, level);
-    write_place(entry.writer, out, words, group.line);
+    write_place(entry.writer, out, event.place_words(), group.line);
     let whole = entry.writer.text(out, b"}\n");
     entry.done = whole;
     whole

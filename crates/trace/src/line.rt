@@ -1,28 +1,46 @@
 //! A line that is being written.
-ghost use Rattle.std.specs.Prelude.{◌≡◌};
+ghost use Rattle.std.specs.Prelude.{◌≡◌, false};
 ghost use Rattle.trace.specs.Ends.{ended};
 
 use output::writer::Writer;
 
 /// A line that is being written: unless it was completed, its end puts the mark back and counts it as lost.
+// Kept: the flag says only whether the line was completed, and the drop reads it; no value stands beside it.
 pub struct Line<'w> {
     pub writer: &'w mut Writer,
     pub start: usize,
     pub done: bool,
 }
 
+impl<'w> Line<'w> {
+    /// A line from the mark on, not completed yet.
+    pub fn begin(writer: &'w mut Writer) -> Line<'w>
+        ensures same_reference { result.writer.ghost_name ≡ writer.entry.ghost_name }
+        ensures writer { result.writer.now ≡ writer.old }
+        ensures start { result.start ≡ writer.old.mark }
+        ensures done { result.done ≡ false }
+    {
+        let start = writer.mark;
+        Line {
+            writer,
+            start,
+            done: false,
+        }
+    }
+}
+
 impl Drop for Line<'_> {
     fn drop(self)
         ensures { self.exit.0.now ≡ ended self.entry.done self.entry.start self.entry.writer.now }
     {
-        if !self.done {
-            self.writer.mark = self.start;
-            self.writer.lost = self.writer.lost.saturating_add(1);
-        }
         let Line {
-            writer: _,
-            start: _,
-            done: _,
+            writer,
+            start,
+            done,
         } = self;
+        if !done {
+            writer.mark = start;
+            writer.lost = writer.lost.saturating_add(1);
+        }
     }
 }

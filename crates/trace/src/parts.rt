@@ -11,7 +11,7 @@ pub fn write_level(writer: &mut Writer, out: &mut [u8], level: u8) -> bool
     ensures { Added (level_text level) (out_of writer.old out.old) (out_of writer.new out.new) result }
 {
     writer.text(out, b" group (level ");
-    writer.decimal(out, level.saturating_sub(1) as u32);
+    writer.number(out, level.saturating_sub(1));
     writer.text(out, b")")
 }
 
@@ -23,7 +23,7 @@ pub fn write_place(writer: &mut Writer, out: &mut [u8], words: &[u8], line: u16)
         return true;
     }
     writer.text(out, words);
-    writer.decimal(out, line as u32)
+    writer.number(out, line)
 }
 
 /// The register at the place, as the value prints it in the rest of the output.
@@ -37,9 +37,9 @@ pub fn write_register<V: Value>(
     ensures { Added (V.Value.ops.shown value.now (V.Value.meaning pool.now) place)
         (out_of writer.old out.old) (out_of writer.new out.new) result }
 {
-    let mark = writer.mark;
-    let start = mark.min(out.len());
+    // Kept: the rest of the output is lent on to the value's printer, which knows of no writer.
+    let start = writer.mark.min(out.len());
     let put = value.print(pool, place, &mut out[start..]);
-    writer.mark = mark + put.size;
+    writer.mark += put.size;
     put.whole
 }

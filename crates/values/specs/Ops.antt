@@ -1,5 +1,5 @@
 -- What a kind of value does: V are the values, M is what their pool means.
-use Rattle.std.specs.Prelude.{◌≡◌, ℕ, Bool, true, false, cond, List, ◌++◌, length, drop, Some, None, Option, ◌==◌, nat_le, nat_lt}
+use Rattle.std.specs.Prelude.{◌≡◌, ℕ, Bool, true, false, cond, List, Some, None, Option, ◌==◌, nat_lt}
 use Rattle.tokens.specs.declared.class.Class.{Class}
 use Rattle.values.specs.Readings.{Reading, cost}
 
@@ -59,11 +59,3 @@ pub record MadeOf {V M : Type 0} (k : Ops V M) (r : Reading) (m n : M) (v : V) :
   pub value : v ≡ k.made r at
   pub pool : n ≡ k.makes r at m
   pub enough : nat_lt (k.free m) (cost r) ≡ false
-
--- whether a list fits into words
-abbrev pub fitted : List ℕ → List ℕ → Bool
-fitted ts ws = nat_le (length ts) (length ws)
-
--- the words with the list at their front, or as they were if it does not fit
-abbrev pub copied : List ℕ → List ℕ → List ℕ
-copied ts ws = cond (fitted ts ws) (ts ++ drop (length ts) ws) ws

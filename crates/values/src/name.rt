@@ -12,6 +12,6 @@ pub fn write_name(writer: &mut Writer, out: &mut [u8], class: Class, number: u32
 {
     writer.text(out, b"\\");
     writer.text(out, class.name());
-    writer.decimal(out, number);
+    writer.number(out, number);
     writer.text(out, b"=")
 }

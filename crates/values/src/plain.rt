@@ -1,6 +1,6 @@
 //! Plain numbers: the small model's count registers, with nothing shared.
-ghost use Rattle.std.specs.Prelude.{◌≡◌, ℕ};
-ghost use Rattle.values.specs.Plains.{plain_ops};
+ghost use Rattle.std.specs.Prelude.{◌≡◌};
+ghost use Rattle.values.specs.Plains.{plain_of, plain_ops};
 ghost use Rattle.std.proofs.Common.{rules};
 
 use crate::name::write_name;
@@ -20,9 +20,17 @@ pub struct Plain {
     pub number: i32,
 }
 
+impl From<i32> for Plain {
+    ghost from_gives = { λ number plain. plain ≡ plain_of number };
+
+    fn from(number: i32) -> Plain {
+        Plain { number }
+    }
+}
+
 /// The pool of a kind of value that shares no lists.
 #[derive(Clone, Copy)]
-pub struct NoPool {}
+pub struct NoPool;
 
 impl Value for Plain {
     type Pool = NoPool;
@@ -44,6 +52,7 @@ impl Value for Plain {
     }
 
     fn in_bounds(&self) -> bool {
+        // No i32 is above MAX_NUMBER.
         self.number >= -MAX_NUMBER
     }
 
@@ -81,7 +90,7 @@ impl Value for Plain {
 
     fn of_scalar(scalar: Scalar) -> Plain {
         match scalar {
-            Scalar::Number(number) => Plain { number },
+            Scalar::Number(number) => Plain::from(number),
             Scalar::Dimension(_) => Plain { number: 0 },
         }
     }
@@ -91,11 +100,7 @@ impl Value for Plain {
     }
 
     fn make_list(list: &[u16], pool: &mut NoPool) -> Option<Plain> {
-        if list.len() == 0 {
-            Some(Plain { number: 0 })
-        } else {
-            None
-        }
+        list.is_empty().then_some(Plain { number: 0 })
     }
 
     fn take_use(&self, pool: &mut NoPool) -> bool {
@@ -107,12 +112,9 @@ impl Value for Plain {
     }
 
     fn print(&self, pool: &NoPool, place: u32, to: &mut [u8]) -> Put {
-        let mut at = Writer { mark: 0, lost: 0 };
-        write_name(&mut at, to, Class::Count, place);
-        let whole = at.signed(to, self.number);
-        Put {
-            size: at.mark,
-            whole,
-        }
+        let mut writer = Writer::new();
+        write_name(&mut writer, to, Class::Count, place);
+        let whole = writer.number(to, self.number);
+        writer.into_put(whole)
     }
 }

@@ -1,8 +1,9 @@
 //! A kind of value: what registers of one model hold, with the pool of the lists that they share.
-ghost use Rattle.std.specs.Prelude.{◌≡◌, ℕ, Bool, true, List, Some, None, nat_lt};
+ghost use Rattle.std.specs.Prelude.{◌≡◌, ℕ, true, Some, None, nat_lt};
 ghost use Rattle.output.specs.Text.{Piece};
+ghost use Rattle.tokens.specs.Copies.{fitted, copied};
 ghost use Rattle.values.specs.Readings.{tokens, scalar_of, tokens_of, tokens_count, of_scalar, cost};
-ghost use Rattle.values.specs.Ops.{Ops, list_stands, MadeOf, fitted, copied};
+ghost use Rattle.values.specs.Ops.{Ops, list_stands, MadeOf};
 ghost use Rattle.values.specs.Laws.{Laws};
 
 use crate::scalar::Scalar;

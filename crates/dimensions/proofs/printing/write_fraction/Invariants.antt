@@ -1,12 +1,17 @@
-use Rattle.std.proofs.Common.{◌≡◌, ◌+◌, ◌-◌, ◌%◌, ◌^◌, ◌<◌, ◌≤◌, ◌++◌, length, take}
-use Rattle.dimensions.specs.DigitLoops.{digits_of, fraction}
+use Rattle.std.proofs.Common.{◌-◌, ◌%◌, ◌≤◌}
+use Rattle.output.specs.Writers.{out_of}
+use Rattle.dimensions.specs.DigitLoops.{fraction}
 use Rattle.dimensions.specs.Dimensions.{shown}
+use Rattle.dimensions.proofs.DigitSteps.{Half}
 use Rattle.dimensions.proofs.printing.write_fraction.Given as goal
 
-abbrev pub invariant-loop-s : goal.invariant-loop-s
-invariant-loop-s l =
-    (l.k < 5) × (length l.digits ≡ 5) × (l.s ≤ 655355) × (l.d ≤ 655355) × (l.d ≡ 10 ^ (l.k + 1))
-    × (take l.k l.digits ++ shown (digits_of (10 - l.k) l.s l.d) ≡ shown (fraction (l.size % 65536)))
+abbrev pub invariant-loop-left : goal.invariant-loop-left
+invariant-loop-left l = record {
+  left_fits : l.left ≤ 655355;
+  precision_starts : 10 ≤ l.precision;
+  precision_fits : l.precision ≤ 655355;
+  half : Half (out_of l.initial.writer l.initial.out) (out_of l.writer l.out) (shown (fraction (l.size % 65536))) l.left l.precision;
+}
 
-abbrev pub decreases-loop-s : goal.decreases-loop-s
-decreases-loop-s l = 5 - l.k
+abbrev pub decreases-loop-left : goal.decreases-loop-left
+decreases-loop-left l = 655360 - l.precision

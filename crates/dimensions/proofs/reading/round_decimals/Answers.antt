@@ -1,19 +1,9 @@
-use Rattle.std.proofs.Common.{ℕ, ◌+◌, ◌/◌, ap, ◌∙◌, arith, lit<}
-use Rattle.std.specs.Slice.Iter.{iter_rest}
-use Rattle.std.specs.Iterator.Adapters.{rev_source}
+use Rattle.std.proofs.Common.{ℕ, ◌+◌, ◌/◌, ap, ◌∙◌, arith}
 use Rattle.dimensions.specs.Fractions.{capped}
 use Rattle.dimensions.specs.DigitLoops.{gathered}
 use Rattle.dimensions.proofs.Rounding.{tex_rounds}
-use Rattle.dimensions.proofs.DigitSteps.{at_start, one_read, at_end}
+use Rattle.dimensions.proofs.DigitSteps.{one_read, at_end}
 use Rattle.dimensions.proofs.reading.round_decimals.Goals as goal
-
-pub loop-digit-init : goal.loop-digit-init
-loop-digit-init c = (
-  tt,
-  tt,
-  lit< tt,
-  at_start _ c.args.digits.now (ap (λ z. iter_rest (rev_source z)) c.into_iter-digit-iterator.ensures.into_iter_gives ∙ ap iter_rest c.rev-digit-items.ensures.source ∙ c.iter.ensures.rest),
-)
 
 pub loop-digit-preserved : goal.loop-digit-preserved
 loop-digit-preserved c =

@@ -9,4 +9,4 @@ returns-then-line-eq0 c = reads (simp (eq-eqb c.args.line 0 c.if-line-eq0.true))
 pub returns : goal.returns
 returns c =
     reads (simp (ne_eqb c.args.line 0 c.if-line-eq0.false))
-    (ends (decimal_nonempty c.args.line (omega arith)) (begun c.text.ensures) c.decimal.ensures)
+    (ends (decimal_nonempty c.args.line (omega arith)) (begun c.text.ensures) c.number.ensures)
