@@ -9,16 +9,11 @@ use crate::entry::Entry;
 pub fn count<V: Copy>(entries: &[Entry<V>], top: usize) -> usize
     ensures { result ≡ held_in (row_of top entries.now).held }
 {
-    let mut held = 0;
-    let mut at = top.min(entries.len());
-    while at > 0 {
-        at -= 1;
-        let entry = entries[at];
-        match entry {
-            Entry::Boundary(_) => return held,
-            Entry::Held(_) => held += 1,
-            Entry::Saved(_, _) => {}
-        }
-    }
-    held
+    let used = top.min(entries.len());
+    entries[..used]
+        .iter()
+        .rev()
+        .take_while(|entry| !entry.is_boundary())
+        .filter(|entry| entry.is_held())
+        .count()
 }

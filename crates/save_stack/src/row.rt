@@ -9,11 +9,13 @@ pub fn push<E: Copy>(entries: &mut [E], top: usize, entry: E) -> Option<usize>
       | None ↦ (is_full (row_of top entries.old) ≡ true) × (entries.new ≡ entries.old)
     ] }
 {
+    // Kept: a test and an index. After `*entries.get_mut(top)? = entry` a proof knows the row's length, and none of its entries.
     if top < entries.len() {
         entries[top] = entry;
-        return Some(top + 1);
+        Some(top + 1)
+    } else {
+        None
     }
-    None
 }
 
 /// The newest entry, and the top without it.
@@ -24,8 +26,6 @@ pub fn pop<E: Copy>(entries: &[E], top: usize) -> Option<(E, usize)>
     ] }
 {
     let used = top.min(entries.len());
-    if used == 0 {
-        return None;
-    }
-    Some((entries[used - 1], used - 1))
+    let (newest, rest) = entries[..used].split_last()?;
+    Some((*newest, rest.len()))
 }

@@ -10,6 +10,7 @@ use crate::{held, row};
 use tokens::limits::MAX_ENTRIES;
 
 /// A stack of entries, whatever they are, in a row that is lent to it.
+// Kept: a row with a length beside it, since the row is lent when the stack is made and never grows; the functions of `row` are handed it.
 #[derive(Drop)]
 pub struct Stack<'a, E> {
     entries: &'a mut [E],
@@ -35,10 +36,7 @@ impl<'a, E: Copy> Stack<'a, E> {
         ensures { stack_of result ≡ empty (min (length entries.old) top_entries) }
     {
         let used = entries.len().min(MAX_ENTRIES);
-        Stack {
-            entries: &mut entries[0..used],
-            top: 0,
-        }
+        Stack::new(&mut entries[..used])
     }
 
     /// How many more entries it takes.
@@ -60,14 +58,11 @@ impl<'a, E: Copy> Stack<'a, E> {
         ensures result { result ≡ not (is_full (stack_of self.old)) }
         ensures after { stack_of self.new ≡ pushed (stack_of self.old) entry }
     {
-        let top = self.top;
-        match row::push(self.entries, top, entry) {
-            Some(more) => {
-                self.top = more;
-                true
-            }
-            None => false,
-        }
+        let Some(more) = row::push(self.entries, self.top, entry) else {
+            return false;
+        };
+        self.top = more;
+        true
     }
 
     /// Takes the newest entry off.
@@ -75,15 +70,13 @@ impl<'a, E: Copy> Stack<'a, E> {
         ensures result { result ≡ newest (stack_of self.old).held }
         ensures after { stack_of self.new ≡ under (stack_of self.old) (stack_of self.old).held }
     {
-        match self.last() {
-            Some((entry, top)) => {
-                self.top = top;
-                Some(entry)
-            }
-            None => None,
-        }
+        let (entry, top) = self.last()?;
+        self.top = top;
+        Some(entry)
     }
 
+    /// The newest entry, and the top without it.
+    // Kept: apart from `pop`. Where the row is lent on through a `&mut self`, a proof loses what stands in it.
     fn last(&self) -> Option<(E, usize)>
         ensures { elim result [
           | Some p ↦ (Some p.0 ≡ newest (stack_of self.now).held) × (row_of p.1 self.now.entries.now ≡ under (stack_of self.now) (stack_of self.now).held)

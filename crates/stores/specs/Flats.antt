@@ -1,5 +1,5 @@
 -- A row of cells as a store: every blank one can be filled.
-use Rattle.std.specs.Prelude.{ℕ, ◌+◌, Bool, cond, List, [], ◌∷◌, length, slice_index_or}
+use Rattle.std.specs.Prelude.{ℕ, Bool, List, length, count_by, slice_index_or}
 use Rattle.values.specs.Ops.{Ops}
 use Rattle.stores.specs.Cells.{cell, is_blank}
 use Rattle.stores.specs.Stores.{StoreModel}
@@ -7,8 +7,7 @@ use Rattle.stores.specs.declared.cell.Cell.{Cell}
 
 -- how many of a row pass a test
 abbrev pub count : {C : Type 0} → (C → Bool) → List C → ℕ
-count test [] = 0
-count test (c ∷ cs) = cond (test c) 1 0 + count test cs
+count = count_by
 
 -- a row of cells as a store
 abbrev pub row : {V M : Type 0} → Ops V M → List (Cell V) → StoreModel V

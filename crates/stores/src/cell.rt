@@ -1,6 +1,6 @@
 //! What stands at a place.
 ghost use Rattle.std.specs.Prelude.{◌≡◌};
-ghost use Rattle.stores.specs.Cells.{blank};
+ghost use Rattle.stores.specs.Cells.{cell, is_blank};
 
 use values::value::Value;
 
@@ -11,9 +11,21 @@ pub struct Cell<V> {
     pub level: u8,
 }
 
-/// Whether the cell is blank: zero at level 1.
-pub fn is_blank<V: Value>(value: &V, level: u8) -> bool
-    ensures { result ≡ blank V.Value.ops.is_zero value.now level }
-{
-    value.is_zero() && level == 1
+impl<V: Value> Cell<V> {
+    /// The blank cell: zero at level 1.
+    pub fn blank() -> Self
+        ensures { result ≡ cell V.Value.ops.zero 1 }
+    {
+        Cell {
+            value: V::zero(),
+            level: 1,
+        }
+    }
+
+    /// Whether it is blank: zero at level 1.
+    pub fn is_blank(&self) -> bool
+        ensures { result ≡ is_blank V.Value.ops.is_zero self.now }
+    {
+        self.value.is_zero() && self.level == 1
+    }
 }

@@ -5,7 +5,7 @@ ghost use Rattle.stores.specs.Faults.{store_refusal};
 use tokens::refusal::Refusal;
 
 /// Why a store refuses a place.
-#[derive(Clone, Copy)]
+#[derive(Clone, Copy, PartialEq, Eq, Debug)]
 pub enum StoreFault {
     /// The place is beyond the reach.
     Beyond { place: u32 },
@@ -19,8 +19,8 @@ impl StoreFault {
         ensures { result ≡ store_refusal self }
     {
         match self {
-            StoreFault::Beyond { place: _ } => Refusal::NoPlace,
-            StoreFault::Full { place: _ } => Refusal::NoSpare,
+            StoreFault::Beyond { .. } => Refusal::NoPlace,
+            StoreFault::Full { .. } => Refusal::NoSpare,
         }
     }
 }

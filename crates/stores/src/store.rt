@@ -30,6 +30,7 @@ pub trait Store<V: Value> {
         ensures { result ≡ verdict V.Value.ops.is_zero (model self.now) place blank };
 
     /// Makes the place hold the value at the level, unless that is refused.
+    // Kept: value and level apart. A trait's method that takes a `Cell<V>` by value gets its clauses only where each impl repeats them.
     fn write(&mut self, place: u32, value: V, level: u8) -> Result<(), StoreFault>
         ensures result { result ≡ verdict V.Value.ops.is_zero (model self.old) place (blank V.Value.ops.is_zero value level) }
         ensures after { model self.new ≡ writes V.Value.ops.is_zero (model self.old) place (cell_of value level) };

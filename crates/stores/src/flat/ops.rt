@@ -1,11 +1,11 @@
 //! What the flat store does.
-ghost use Rattle.std.specs.Prelude.{◌≡◌, ℕ, ◌<◌, ◌≤◌, min, length, Some, None};
+ghost use Rattle.std.specs.Prelude.{◌≡◌, ◌<◌, min, length, Some, None};
 ghost use Rattle.tokens.specs.Limits.{top_reach};
 ghost use Rattle.stores.specs.Cells.{is_blank};
-ghost use Rattle.stores.specs.Stores.{cell_at, next_filled};
+ghost use Rattle.stores.specs.Stores.{next_filled};
 ghost use Rattle.stores.specs.Flats.{count, row, blank_row};
 
-use crate::cell::{Cell, is_blank};
+use crate::cell::Cell;
 use crate::fault::StoreFault;
 use crate::flat::Flat;
 use crate::store::Store;
@@ -18,54 +18,12 @@ impl<'a, V: Value> Flat<'a, V> {
         ensures { row V.Value.ops result.cells.now ≡ blank_row V.Value.ops (min (length cells.old) top_reach) }
     {
         let reach = cells.len().min(MAX_REACH);
-        let cells = &mut cells[0..reach];
-        for cell in cells.iter_mut() {
-            *cell = Cell {
-                value: V::zero(),
-                level: 1,
-            };
-        }
+        let cells = &mut cells[..reach];
+        // Not `fill`: that asks for a clone that cannot fail, which a `Value` does not promise.
+        let blank = Cell::blank();
+        cells.fill_with(|| blank);
         Flat { cells }
     }
-}
-
-fn read<V: Value>(cells: &[Cell<V>], place: u32) -> Option<Cell<V>>
-    ensures { result ≡ cell_at (row V.Value.ops cells.now) place }
-{
-    if (place as usize) < cells.len() {
-        Some(cells[place as usize])
-    } else {
-        None
-    }
-}
-
-fn count_blanks<V: Value>(cells: &[Cell<V>]) -> u32
-    requires { length cells.now ≤ top_reach }
-    ensures { result ≡ count (is_blank V.Value.ops.is_zero) cells.now }
-{
-    let mut n = 0;
-    for c in cells {
-        if is_blank(&c.value, c.level) {
-            n += 1;
-        }
-    }
-    n
-}
-
-fn first_filled<V: Value>(cells: &[Cell<V>], from: u32) -> Option<u32>
-    requires { length cells.now ≤ top_reach }
-    ensures value { result ≡ next_filled V.Value.ops.is_zero (row V.Value.ops cells.now) from }
-    ensures near { elim result [ Some p ↦ p < top_reach | None ↦ Unit {0} ] }
-{
-    let mut at = from;
-    while (at as usize) < cells.len() {
-        let c = cells[at as usize];
-        if !is_blank(&c.value, c.level) {
-            return Some(at);
-        }
-        at += 1;
-    }
-    None
 }
 
 impl<'a, V: Value> Store<V> for Flat<'a, V> {
@@ -76,16 +34,16 @@ impl<'a, V: Value> Store<V> for Flat<'a, V> {
     }
 
     fn spare(&self) -> u32 {
-        count_blanks(self.cells)
+        self.cells.iter().filter(|cell| cell.is_blank()).count() as u32
     }
 
     fn cell(&self, place: u32) -> Option<Cell<V>> {
-        read(self.cells, place)
+        self.cells.get(place as usize).copied()
     }
 
     // A blank cell that is there is itself spare, so the flat store is never full.
     fn may_write(&self, place: u32, blank: bool) -> Result<(), StoreFault> {
-        if (place as usize) < self.cells.len() {
+        if place < self.reach() {
             Ok(())
         } else {
             Err(StoreFault::Beyond { place })
@@ -93,15 +51,19 @@ impl<'a, V: Value> Store<V> for Flat<'a, V> {
     }
 
     fn write(&mut self, place: u32, value: V, level: u8) -> Result<(), StoreFault> {
-        if (place as usize) < self.cells.len() {
-            self.cells[place as usize] = Cell { value, level };
-            Ok(())
-        } else {
-            Err(StoreFault::Beyond { place })
-        }
+        let cell = Cell { value, level };
+        self.may_write(place, cell.is_blank())?;
+        self.cells[place as usize] = cell;
+        Ok(())
     }
 
     fn next_filled(&self, from: u32) -> Option<u32> {
-        first_filled(self.cells, from)
+        for place in from..self.reach() {
+            let cell = self.cells[place as usize];
+            if !cell.is_blank() {
+                return Some(place);
+            }
+        }
+        None
     }
 }

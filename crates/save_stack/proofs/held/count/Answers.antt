@@ -1,35 +1,21 @@
-use Rattle.std.proofs.Common.{◌+◌, ◌-◌, ◌∷◌, reverse, take, ap, arith}
-use Rattle.save_stack.specs.Entries.{held_in}
-use Rattle.save_stack.proofs.Fronts.{held_used, held_turn}
+use Rattle.std.proofs.Common.{◌≡◌, reverse, take, rules, ap, ◌∙◌}
+use Rattle.std.proofs.lemmas.List.{take_min}
+use Rattle.std.proofs.lemmas.Iterator.Adapters.{YieldsList-from_rev_slice}
+use Rattle.std.proofs.lemmas.Iterator.Consumers.{YieldsList-from_filter, count_from_yields_List}
+use Rattle.std.proofs.lemmas.Iterator.Search.{YieldsList-from_take_while}
+use Rattle.save_stack.specs.Entries.{is_held, held_in}
+use Rattle.save_stack.proofs.HeldBack.{is_inside, held_is}
 use Rattle.save_stack.proofs.held.count.Goals as goal
 
-pub loop-at-init : goal.loop-at-init
-loop-at-init g c =
+pub returns : goal.returns
+returns g c =
     let xs = c.args.entries.now in
-    let e = held_used xs c.args.top c.min-at.result c.min-at.ensures in
-    let f = ap held_in e in
-    (omega arith, omega arith)
-
-pub returns-in-Boundary : goal.returns-in-Boundary
-returns-in-Boundary g c =
-    let xs = c.args.entries.now in
-    let v = c.loop-at in
-    let t = held_turn xs v.at v.held _ c.index-entries-at.result c.loop-at-test.true (omega arith) c.index-entries-at.is v.invariant.1 in
-    let f = ap (λ z. v.held + held_in (z ∷ reverse (take (v.at - 1) xs))) c.in-Boundary.is in
-    omega arith
-
-pub loop-at-preserved-in-Held : goal.loop-at-preserved-in-Held
-loop-at-preserved-in-Held g c =
-    let xs = c.args.entries.now in
-    let v = c.loop-at in
-    let t = held_turn xs v.at v.held _ c.index-entries-at.result c.loop-at-test.true (omega arith) c.index-entries-at.is v.invariant.1 in
-    let f = ap (λ z. v.held + held_in (z ∷ reverse (take (v.at - 1) xs))) c.in-Held.is in
-    (omega arith, omega arith)
-
-pub loop-at-preserved : goal.loop-at-preserved
-loop-at-preserved g c =
-    let xs = c.args.entries.now in
-    let v = c.loop-at in
-    let t = held_turn xs v.at v.held _ c.index-entries-at.result c.loop-at-test.true (omega arith) c.index-entries-at.is v.invariant.1 in
-    let f = ap (λ z. v.held + held_in (z ∷ reverse (take (v.at - 1) xs))) c.in-Saved.is in
-    (omega arith, omega arith)
+    let u = c.min-used.result in
+    let used : take u xs ≡ take c.args.top xs = ap (λ k. take k xs) c.min-used.ensures ∙ take_min c.args.top xs in
+    count_from_yields_List c.filter.result _ c.count.ensures.ran
+    (YieldsList-from_filter _ is_held
+    (YieldsList-from_take_while _ is_inside (YieldsList-from_rev_slice (take u xs) (search rules)) (search rules) (search rules) (λ x b q k. search rules))
+    c.filter.ensures.closure
+    (λ x b q k. search rules))
+    ∙ held_is (reverse (take u xs))
+    ∙ ap (λ ys. held_in (reverse ys)) used
