@@ -1,4 +1,3 @@
 pub mod Texts
 pub mod Mixeds
 pub mod MixedLaws
-pub mod Counts

@@ -1,11 +1,12 @@
 //! The mixed value as a kind of value.
-ghost use Rattle.std.specs.Prelude.{◌≡◌};
+ghost use Rattle.std.specs.Prelude.{◌≡◌, ◌/◌, ◌++◌, ◌≢◌, MatchOption};
 ghost use Rattle.output.specs.Text.{Added};
 ghost use Rattle.output.specs.Writers.{out_of};
 ghost use Rattle.token_pool.specs.Meanings.{pool_of};
 ghost use Rattle.token_pool.specs.Pools.{PoolModel};
 ghost use Rattle.mixed.specs.Mixeds.{mixed_ops, reads_as, class_in, slot};
 ghost use Rattle.mixed.specs.Texts.{reading_text};
+ghost use Rattle.values.specs.Names.{name_text};
 ghost use Rattle.values.specs.Readings.{zero_at, scalar_of};
 ghost use Rattle.mixed.specs.MixedLaws.{mixed_laws};
 
@@ -21,15 +22,37 @@ use values::name::write_name;
 use values::scalar::Scalar;
 use values::value::Value;
 
-/// The class of registers at a place: register n of class c is place 4n + c, with c = 0 for counts, 1 for dimensions and 3 for lists.
-fn class_at(place: u32) -> Class
+/// The class of registers at a place: register n of class c is place 4n + c, with c = 0 for counts, 1 for dimensions and 3 for lists; None for the free slot.
+fn class_at(place: u32) -> Option<Class>
+    ensures { MatchOption result (slot place ≡ 2) (λ c. (slot place ≢ 2) × (c ≡ class_in (slot place))) }
+{
+    match place % 4 {
+        0 => Some(Class::Count),
+        1 => Some(Class::Dimen),
+        3 => Some(Class::Toks),
+        _ => None,
+    }
+}
+
+/// The class that a table shows at a place; the free slot stands with the counts.
+fn shown_class(place: u32) -> Class
     ensures { result ≡ class_in (slot place) }
 {
-    let slot = place % 4;
-    if slot == 1 {
-        return Class::Dimen;
-    }
-    if slot == 3 { Class::Toks } else { Class::Count }
+    class_at(place).unwrap_or(Class::Count)
+}
+
+/// The register at the place, if it holds the value: what fits of it, from the mark on; whether all of it fitted.
+fn write_register(
+    writer: &mut Writer,
+    out: &mut [u8],
+    value: Mixed,
+    pool: &TokenPool,
+    place: u32,
+) -> bool
+    ensures { Added (name_text (class_in (slot place)) (place / 4) ++ reading_text (reads_as value (pool_of pool.now) place)) (out_of writer.old out.old) (out_of writer.new out.new) result }
+{
+    write_name(writer, out, shown_class(place), place / 4)
+        && write_reading(writer, out, value, pool, place)
 }
 
 /// What a register at the place reads as that holds the value: what fits of it, from the mark on; whether all of it fitted.
@@ -43,8 +66,8 @@ fn write_reading(
     ensures { Added (reading_text (reads_as value (pool_of pool.now) place)) (out_of writer.old out.old) (out_of writer.new out.new) result }
 {
     match value {
-        Mixed::Zero => write_zero(writer, out, class_at(place)),
-        Mixed::Number(n) => writer.signed(out, n),
+        Mixed::Zero => write_zero(writer, out, shown_class(place)),
+        Mixed::Number(n) => writer.number(out, n),
         Mixed::Dimension(n) => write_dimension(writer, out, n),
         Mixed::List(list) => write_list(writer, out, pool, list),
     }
@@ -82,28 +105,27 @@ impl Value for Mixed {
 
     fn in_bounds(&self) -> bool {
         match *self {
-            Mixed::Zero => true,
+            Mixed::Zero | Mixed::List(_) => true,
             Mixed::Number(n) => n >= -MAX_NUMBER && n != 0,
             Mixed::Dimension(n) => n >= -MAX_DIMENSION && n <= MAX_DIMENSION && n != 0,
-            Mixed::List(_) => true,
         }
     }
 
     fn fits(&self, place: u32) -> bool {
         match *self {
-            Mixed::Zero => place % 4 != 2,
-            Mixed::Number(_) => place % 4 == 0,
-            Mixed::Dimension(_) => place % 4 == 1,
-            Mixed::List(_) => place % 4 == 3,
+            Mixed::Zero => class_at(place).is_some(),
+            Mixed::Number(_) => class_at(place) == Some(Class::Count),
+            Mixed::Dimension(_) => class_at(place) == Some(Class::Dimen),
+            Mixed::List(_) => class_at(place) == Some(Class::Toks),
         }
     }
 
     fn is_register(place: u32) -> bool {
-        (place as usize) < MAX_REACH && place % 4 != 2
+        (place as usize) < MAX_REACH && class_at(place).is_some()
     }
 
     fn class(place: u32) -> Class {
-        class_at(place)
+        shown_class(place)
     }
 
     fn list(&self) -> Option<u32> {
@@ -122,7 +144,7 @@ impl Value for Mixed {
 
     fn scalar(&self, pool: &TokenPool, place: u32) -> Option<Scalar> {
         match *self {
-            Mixed::Zero => zero_scalar(class_at(place)),
+            Mixed::Zero => zero_scalar(shown_class(place)),
             Mixed::Number(n) => Some(Scalar::Number(n)),
             Mixed::Dimension(n) => Some(Scalar::Dimension(n)),
             Mixed::List(_) => None,
@@ -145,16 +167,9 @@ impl Value for Mixed {
 
     fn of_scalar(scalar: Scalar) -> Mixed {
         match scalar {
-            Scalar::Number(n) => if n == 0 {
-                Mixed::Zero
-            } else {
-                Mixed::Number(n)
-            },
-            Scalar::Dimension(n) => if n == 0 {
-                Mixed::Zero
-            } else {
-                Mixed::Dimension(n)
-            },
+            Scalar::Number(0) | Scalar::Dimension(0) => Mixed::Zero,
+            Scalar::Number(n) => Mixed::Number(n),
+            Scalar::Dimension(n) => Mixed::Dimension(n),
         }
     }
 
@@ -163,13 +178,10 @@ impl Value for Mixed {
     }
 
     fn make_list(list: &[u16], pool: &mut TokenPool) -> Option<Mixed> {
-        if list.len() == 0 {
+        if list.is_empty() {
             return Some(Mixed::Zero);
         }
-        match pool.make(list) {
-            Some(made) => Some(Mixed::List(made)),
-            None => None,
-        }
+        pool.make(list).map(Mixed::List)
     }
 
     fn take_use(&self, pool: &mut TokenPool) -> bool {
@@ -187,18 +199,9 @@ impl Value for Mixed {
     }
 
     fn print(&self, pool: &TokenPool, place: u32, to: &mut [u8]) -> Put {
-        let mut at = Writer { mark: 0, lost: 0 };
-        if !write_name(&mut at, to, class_at(place), place / 4) {
-            return Put {
-                size: at.mark,
-                whole: false,
-            };
-        }
-        let whole = write_reading(&mut at, to, *self, pool, place);
-        Put {
-            size: at.mark,
-            whole,
-        }
+        let mut writer = Writer::new();
+        let whole = write_register(&mut writer, to, *self, pool, place);
+        writer.into_put(whole)
     }
 }
 

@@ -26,12 +26,10 @@ pub fn write_token(writer: &mut Writer, out: &mut [u8], code: u16) -> bool
 pub fn write_list(writer: &mut Writer, out: &mut [u8], pool: &TokenPool, list: u32) -> bool
     ensures { Added (flat_map token_text ((pool_of pool.now).list list)) (out_of writer.old out.old) (out_of writer.new out.new) result }
 {
-    let mut cursor = pool.first(list);
-    while let Some(token) = pool.token(cursor) {
-        if !write_token(writer, out, token.code) {
+    for code in pool.tokens(list) {
+        if !write_token(writer, out, code) {
             return false;
         }
-        cursor = token.rest;
     }
     true
 }

@@ -2,4 +2,3 @@ pub mod Chains
 pub mod Lists
 pub mod Models
 pub mod Reading
-pub mod Whole

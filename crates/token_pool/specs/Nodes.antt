@@ -1,8 +1,8 @@
 -- What the nodes of a pool hold: chains of nodes, each node with its owner and how many come after it.
-use Rattle.std.specs.Prelude.{◌≡◌, ℕ, zero, suc, ◌+◌, ◌<◌, ◌≤◌, Bool, true, cond, ◌&&◌, ◌⊎◌, List, [], ◌∷◌, length, ◌==◌, nat_lt, slice_index_or}
-use Rattle.token_pool.specs.Pools.{PoolModel, takes, taken}
+use Rattle.std.specs.Prelude.{◌≡◌, ℕ, zero, suc, ◌+◌, ◌<◌, ◌≤◌, cond, ◌⊎◌, List, [], ◌∷◌, length, ◌==◌, slice_index_or}
+use Rattle.token_pool.specs.Pools.{PoolModel}
 use Rattle.token_pool.specs.declared.node.Node.{Node}
-use Rattle.token_pool.specs.declared.cursor.Cursor.{Cursor}
+use Rattle.token_pool.specs.declared.chain.FreeNodes.{FreeNodes}
 
 -- the most nodes that a pool uses; no index is that large, so it also stands for the owner of a free node
 abbrev pub top_nodes : ℕ
@@ -20,6 +20,10 @@ at ns i = slice_index_or ns i (none i)
 abbrev pub Chain : List Node → ℕ → ℕ → ℕ → Type 0
 Chain ns o i zero = Unit {0}
 Chain ns o i (suc k) = (i < length ns) × ((at ns i).owner ≡ o) × ((at ns i).left ≡ k) × Chain ns o (at ns i).next k
+
+-- the free nodes are a chain
+abbrev pub Frees : List Node → FreeNodes → Type 0
+Frees ns f = Chain ns top_nodes f.first f.count
 
 -- the tokens of k nodes from i on
 abbrev pub tokens_from : List Node → ℕ → ℕ → List ℕ
@@ -52,51 +56,20 @@ abbrev pub Headed : List Node → ℕ → Type 0
 Headed ns b = (0 < (at ns b).left) × Chain ns b b (suc (at ns b).left)
 
 -- the free nodes are a chain, each list is a chain of its own, and together they are all nodes
-pub record Sound (ns : List Node) (top free : ℕ) : Type 0 where
+pub record Sound (ns : List Node) (f : FreeNodes) : Type 0 where
   pub few : length ns ≤ top_nodes
-  pub frees : Chain ns top_nodes top free
+  pub frees : Frees ns f
   pub heads : (b : ℕ) → (at ns b).owner ≡ b → Headed ns b
-  pub all : free + total ns (length ns) ≡ length ns
+  pub all : f.count + total ns (length ns) ≡ length ns
 
 -- each node is as it was, or went over from the owner o to the owner p
 abbrev pub Moved : List Node → List Node → ℕ → ℕ → Type 0
 Moved ns ms o p = (j : ℕ) → (at ms j ≡ at ns j) ⊎ (((at ns j).owner ≡ o) × ((at ms j).owner ≡ p))
 
+-- a node put before the free ones
+abbrev pub freed : FreeNodes → Node
+freed f = record { owner = top_nodes; left = f.count; next = f.first; token = 0; count = 0 }
+
 -- a node with another reference count
 abbrev pub recounted : Node → ℕ → Node
-recounted n u = record { owner = n.owner; left = n.left; next = n.next; token = n.token; count = u }
-
--- what taking a reference to the list b does to sound nodes, where r says whether it was taken
-pub record Taken (ns ms : List Node) (b : ℕ) (r : Bool) (top free : ℕ) : Type 0 where
-  pub sound : Sound ms top free
-  pub result : r ≡ takes (nodes_pool ns free) b
-  pub after : nodes_pool ms free ≡ taken (nodes_pool ns free) b
-
--- the node at i is of the owner o, and k come after it
-abbrev pub belongs : List Node → ℕ → ℕ → ℕ → Bool
-belongs ns o i k = nat_lt i (length ns) && ((at ns i).owner == o && (at ns i).left == k)
-
--- the same as Chain, as a test
-abbrev pub chain : List Node → ℕ → ℕ → ℕ → Bool
-chain ns o i zero = true
-chain ns o i (suc k) = belongs ns o i k && chain ns o (at ns i).next k
-
--- the same as Headed, as a test
-abbrev pub headed : List Node → ℕ → Bool
-headed ns b = nat_lt 0 (at ns b).left && chain ns b b (suc (at ns b).left)
-
--- the same as Sound, in a form that has one proof at most
-abbrev pub Whole : List Node → ℕ → ℕ → Type 0
-Whole ns top free = (length ns ≤ top_nodes)
-    × (chain ns top_nodes top free ≡ true)
-    × ((b : ℕ) → (at ns b).owner ≡ b → headed ns b ≡ true)
-    × (free + total ns (length ns) ≡ length ns)
-
--- the tokens of k nodes of the owner o from i on, as far as there are such nodes
-abbrev pub rest_from : List Node → ℕ → ℕ → ℕ → List ℕ
-rest_from ns o i zero = []
-rest_from ns o i (suc k) = cond (belongs ns o i k) ((at ns i).token ∷ rest_from ns o (at ns i).next k) []
-
--- the tokens that are still to be read at a cursor
-abbrev pub rest_at : List Node → Cursor → List ℕ
-rest_at ns c = rest_from ns c.list c.node c.left
+recounted n u = record n { count = u }

@@ -1,88 +1,131 @@
-//! Chains of nodes.
-ghost use Rattle.std.specs.Prelude.{◌≡◌, ℕ, ◌+◌, ◌-◌, ◌<◌, ◌≤◌, length};
-ghost use Rattle.token_pool.specs.Nodes.{top_nodes, at, Chain, tokens_from, Moved};
+//! The chain of the free nodes, and the chains that lists are made of.
+ghost use Rattle.std.specs.Prelude.{◌≡◌, ℕ, ◌+◌, ◌-◌, ◌<◌, ◌≤◌, false, length, slice_set};
+ghost use Rattle.token_pool.specs.Pools.{there, made};
+ghost use Rattle.token_pool.specs.Nodes.{top_nodes, at, freed, Frees, Chain, tokens_from, nodes_pool, Sound, Moved};
 
 use crate::node::{FREE, Node};
 
-/// Makes one chain of free nodes of the whole slice, and says which is its first.
-pub fn clear(nodes: &mut [Node]) -> u32
-    requires { length nodes.old ≤ top_nodes }
-    ensures chain { Chain nodes.new top_nodes result (length nodes.new) }
-    ensures owners { (j : ℕ) → j < length nodes.new → (at nodes.new j).owner ≡ top_nodes }
-{
-    let mut below = 0;
-    for i in 0..nodes.len() {
-        nodes[i] = Node {
-            owner: FREE,
-            left: i as u32,
-            next: below,
-            token: 0,
-            count: 0,
-        };
-        below = i as u32;
-    }
-    below
-}
-
-/// Where a chain that was filled begins, and the first node that is still free.
+/// The chain of the free nodes of a slice.
+// Kept: each call is handed the row of nodes, and no struct holds both: the pool's invariant is of both, and does not hold between two of these calls.
 #[derive(Clone, Copy)]
-pub struct Filled {
+pub struct FreeNodes {
+    /// The first of them, if there is one.
     pub first: u32,
-    pub top: u32,
+    /// How many there are.
+    pub count: u32,
 }
 
-/// Takes as many free nodes as there are tokens, from `top` on, and makes a chain of `owner` of them that holds the tokens.
-pub fn fill(nodes: &mut [Node], owner: u32, top: u32, free: u32, tokens: &[u16]) -> Filled
-    requires owned { owner < top_nodes }
-    requires frees { Chain nodes.old top_nodes top free }
-    requires enough { length tokens.now ≤ free }
-    ensures frees { Chain nodes.new top_nodes result.top (free - length tokens.now) }
-    ensures chain { Chain nodes.new owner result.first (length tokens.now) }
-    ensures holds { tokens_from nodes.new result.first (length tokens.now) ≡ tokens.now }
-    ensures moved { Moved nodes.old nodes.new top_nodes owner }
-{
-    let count = tokens.len();
-    let mut first = 0;
-    let mut rest = top;
-    for k in 0..count {
-        let i = rest as usize;
-        let next = nodes[i].next;
-        nodes[i] = Node {
-            owner,
-            left: k as u32,
-            next: first,
-            token: tokens[count - 1 - k],
-            count: 0,
-        };
-        first = rest;
-        rest = next;
+impl FreeNodes {
+    /// Makes one chain of free nodes of the whole slice, whatever the nodes held.
+    pub fn of_all(nodes: &mut [Node]) -> FreeNodes
+        requires { length nodes.old ≤ top_nodes }
+        ensures chain { Frees nodes.new result }
+        ensures all { result.count ≡ length nodes.new }
+        ensures owners { (j : ℕ) → j < length nodes.new → (at nodes.new j).owner ≡ top_nodes }
+    {
+        let mut free = FreeNodes { first: 0, count: 0 };
+        for i in 0..nodes.len() as u32 {
+            free.push(nodes, i);
+        }
+        free
     }
-    Filled { first, top: rest }
-}
 
-/// Gives the `count` nodes of a chain of `owner`, from `first` on, to the free nodes, and says which is then the first of these.
-pub fn release(nodes: &mut [Node], owner: u32, first: u32, count: u32, top: u32, free: u32) -> u32
-    requires owned { owner < top_nodes }
-    requires frees { Chain nodes.old top_nodes top free }
-    requires chain { Chain nodes.old owner first count }
-    requires room { free + count ≤ top_nodes }
-    ensures frees { Chain nodes.new top_nodes result (free + count) }
-    ensures moved { Moved nodes.old nodes.new owner top_nodes }
-    ensures gone { 0 < count → (at nodes.new first).owner ≡ top_nodes }
-{
-    let mut top = top;
-    let mut i = first;
-    for k in 0..count {
-        let next = nodes[i as usize].next;
+    /// Puts a node before the free ones.
+    fn push(&mut self, nodes: &mut [Node], i: u32)
+        requires inside { i < length nodes.old }
+        requires room { self.old.count < top_nodes }
+        ensures node { nodes.new ≡ slice_set nodes.old i (freed self.old) }
+        ensures after { self.new ≡ record { first = i; count = self.old.count + 1 } }
+    {
         nodes[i as usize] = Node {
             owner: FREE,
-            left: free + k,
-            next: top,
-            token: 0,
-            count: 0,
+            left: self.count,
+            next: self.first,
+            ..Node::EMPTY
         };
-        top = i;
-        i = next;
+        *self = FreeNodes {
+            first: i,
+            count: self.count + 1,
+        };
     }
-    top
+
+    /// Takes off the first free node, to be written next: its index.
+    fn pop(&mut self, nodes: &[Node]) -> u32
+        requires inside { self.old.first < length nodes.now }
+        requires some { 0 < self.old.count }
+        ensures first { result ≡ self.old.first }
+        ensures after { self.new ≡ record { first = (at nodes.now self.old.first).next; count = self.old.count - 1 } }
+    {
+        let i = self.first;
+        *self = FreeNodes {
+            first: nodes[i as usize].next,
+            count: self.count - 1,
+        };
+        i
+    }
+
+    /// Makes a list of the tokens: its number, which is the index of its head.
+    pub fn build(&mut self, nodes: &mut [Node], tokens: &[u16]) -> u32
+        requires sound { Sound nodes.old self.old }
+        requires some { 0 < length tokens.now }
+        requires room { length tokens.now < self.old.count }
+        ensures sound { Sound nodes.new self.new }
+        ensures absent { there (nodes_pool nodes.old self.old.count) result ≡ false }
+        ensures after { nodes_pool nodes.new self.new.count ≡ made (nodes_pool nodes.old self.old.count) result tokens.now }
+    {
+        let list = self.pop(nodes);
+        nodes[list as usize] = Node {
+            owner: list,
+            left: tokens.len() as u32,
+            ..Node::EMPTY
+        };
+        let first = self.fill(nodes, list, tokens);
+        nodes[list as usize].next = first;
+        list
+    }
+
+    /// Takes a free node for each token, and makes a chain of `owner` of them that holds the tokens: its first node.
+    fn fill(&mut self, nodes: &mut [Node], owner: u32, tokens: &[u16]) -> u32
+        requires owned { owner < top_nodes }
+        requires frees { Frees nodes.old self.old }
+        requires enough { length tokens.now ≤ self.old.count }
+        ensures frees { Frees nodes.new self.new }
+        ensures left { self.new.count ≡ self.old.count - length tokens.now }
+        ensures chain { Chain nodes.new owner result (length tokens.now) }
+        ensures holds { tokens_from nodes.new result (length tokens.now) ≡ tokens.now }
+        ensures moved { Moved nodes.old nodes.new top_nodes owner }
+    {
+        let mut first = 0;
+        for (left, token) in tokens.iter().rev().enumerate() {
+            let i = self.pop(nodes);
+            nodes[i as usize] = Node {
+                owner,
+                left: left as u32,
+                next: first,
+                token: *token,
+                count: 0,
+            };
+            first = i;
+        }
+        first
+    }
+
+    /// Gives the `count` nodes of a list, from its head on, to the free ones.
+    pub fn release(&mut self, nodes: &mut [Node], list: u32, count: u32)
+        requires owned { list < top_nodes }
+        requires frees { Frees nodes.old self.old }
+        requires chain { Chain nodes.old list list count }
+        requires room { self.old.count + count ≤ top_nodes }
+        ensures frees { Frees nodes.new self.new }
+        ensures more { self.new.count ≡ self.old.count + count }
+        ensures moved { Moved nodes.old nodes.new list top_nodes }
+        ensures gone { 0 < count → (at nodes.new list).owner ≡ top_nodes }
+    {
+        let mut i = list;
+        for _ in 0..count {
+            let next = nodes[i as usize].next;
+            self.push(nodes, i);
+            i = next;
+        }
+    }
 }

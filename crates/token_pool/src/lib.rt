@@ -2,7 +2,6 @@
 #![tactic(auto)]
 
 mod chain;
-pub mod cursor;
-mod list;
+pub mod iter;
 pub mod node;
 pub mod pool;

@@ -1,12 +1,13 @@
 //! The nodes that a pool is handed.
 
 /// The most nodes that a pool uses, so that each has an index of 32 bits below `FREE`.
-pub const MAX_NODES: usize = 4_294_967_295;
+pub const MAX_NODES: usize = FREE as usize;
 
 /// The owner of a free node: no list has that number.
-pub(crate) const FREE: u32 = 4_294_967_295;
+pub(crate) const FREE: u32 = u32::MAX;
 
 /// A node of the memory of a pool. Every node stands in one chain: that of the free nodes, or that of a token list, which begins with its head.
+// Kept: chains by index and an owner that may be `FREE`, since the nodes are handed over once, and a list of t tokens takes t + 1 of them; an `Option<u32>` would make each node larger. One record for the three sorts of node, since a chain is told by owner and rest alone.
 #[derive(Clone, Copy)]
 pub struct Node {
     /// The list whose chain this is, by its number, which is the index of its head; or `FREE`.
@@ -22,7 +23,7 @@ pub struct Node {
 }
 
 impl Node {
-    /// A node to make memory of; a pool writes each before it reads it.
+    /// A node with nothing in it, to make memory of; a pool writes each before it reads it.
     pub const EMPTY: Node = Node {
         owner: 0,
         left: 0,

@@ -1,17 +1,17 @@
 //! A pool of shared token lists.
-ghost use Rattle.token_pool.specs.Nodes.{Whole};
+ghost use Rattle.token_pool.specs.Nodes.{Sound};
+ghost use Rattle.token_pool.specs.Props.{Sound-prop};
 
 pub mod changes;
 pub mod reading;
 
+use crate::chain::FreeNodes;
 use crate::node::Node;
 
 /// Token lists with their reference counts, in nodes that the pool owns and never adds to.
 #[derive(Drop)]
 pub struct TokenPool {
     nodes: Vec<Node>,
-    // The first free node, if there is one, and how many there are.
-    top: u32,
-    free: u32,
-    ghost whole: { Whole nodes.items top free },
+    free: FreeNodes,
+    ghost whole: { Sound nodes.items free } by { Sound-prop _ _ },
 }

@@ -1,12 +1,13 @@
 //! Making a pool and its lists, and counting references to them.
-ghost use Rattle.std.specs.Prelude.{◌≡◌, ◌<◌, ◌≤◌, min, false, ◌⊎◌, length, Some, None, vec_len};
-ghost use Rattle.token_pool.specs.Pools.{there, empty_pool, made, takes, taken, dropped};
+ghost use Rattle.std.specs.Prelude.{◌≡◌, ◌<◌, ◌≤◌, min, false, ◌⊎◌, length, Some, None, vec_len, IsTrue};
+ghost use Rattle.token_pool.specs.Pools.{there, empty_pool, made, recount, removed, takes, taken, dropped};
 ghost use Rattle.token_pool.specs.Nodes.{top_nodes};
 ghost use Rattle.token_pool.specs.Meanings.{pool_of};
 
+use crate::chain::FreeNodes;
 use crate::node::{MAX_NODES, Node};
 use crate::pool::TokenPool;
-use crate::{chain, list};
+use tokens::limits::MAX_USES;
 
 impl TokenPool {
     /// A pool with no list, whatever the nodes held. What lies past the most nodes that a pool uses is let go.
@@ -14,9 +15,8 @@ impl TokenPool {
         ensures { pool_of result ≡ empty_pool (min (vec_len nodes) top_nodes) }
     {
         nodes.truncate(MAX_NODES);
-        let free = nodes.len() as u32;
-        let top = chain::clear(&mut nodes);
-        TokenPool { nodes, top, free }
+        let free = FreeNodes::of_all(&mut nodes);
+        TokenPool { nodes, free }
     }
 
     /// A new list of the tokens, which nothing refers to yet: its number. None, and nothing, if there is no token or too few nodes are free.
@@ -30,15 +30,10 @@ impl TokenPool {
               × ((length tokens.now ≡ 0) ⊎ ((pool_of self.old).free ≤ length tokens.now))
         ] }
     {
-        let count = tokens.len();
-        let free = self.free;
-        if count == 0 || count >= free as usize {
+        if tokens.is_empty() || tokens.len() >= self.free.count as usize {
             return None;
         }
-        let list = self.top;
-        self.top = list::build(&mut self.nodes, list, free, tokens);
-        self.free = free - (count as u32 + 1);
-        Some(list)
+        Some(self.free.build(&mut self.nodes, tokens))
     }
 
     /// Counts one reference to a list more; false, and nothing, if it is not there or has all that can be counted.
@@ -46,19 +41,46 @@ impl TokenPool {
         ensures result { result ≡ takes (pool_of self.old) list }
         ensures after { pool_of self.new ≡ taken (pool_of self.old) list }
     {
-        list::take_use(&mut self.nodes, list)
+        let Some(head) = self.head(list) else {
+            return false;
+        };
+        if head.count == MAX_USES {
+            return false;
+        }
+        self.recount(list, head.count + 1);
+        true
     }
 
-    /// Counts one reference to a list less, which goes if that was the last; false, and nothing, if it is not there.
+    /// Counts one reference to a list less, which goes if that was the last, or if it had none; false, and nothing, if it is not there.
     pub fn drop_use(&mut self, list: u32) -> bool
         ensures result { result ≡ there (pool_of self.old) list }
         ensures after { pool_of self.new ≡ dropped (pool_of self.old) list }
     {
-        let top = self.top;
-        let free = self.free;
-        let left = list::drop_use(&mut self.nodes, list, top, free);
-        self.top = left.top;
-        self.free = left.free;
-        left.found
+        let Some(head) = self.head(list) else {
+            return false;
+        };
+        if head.count > 1 {
+            self.recount(list, head.count - 1);
+        } else {
+            self.remove(list);
+        }
+        true
+    }
+
+    /// Writes the reference count of a list.
+    fn recount(&mut self, list: u32, count: u32)
+        requires { IsTrue (there (pool_of self.old) list) }
+        ensures { pool_of self.new ≡ recount (pool_of self.old) list count }
+    {
+        self.nodes[list as usize].count = count;
+    }
+
+    /// Frees the nodes of a list.
+    fn remove(&mut self, list: u32)
+        requires { IsTrue (there (pool_of self.old) list) }
+        ensures { pool_of self.new ≡ removed (pool_of self.old) list }
+    {
+        let count = self.length(list) + 1;
+        self.free.release(&mut self.nodes, list, count);
     }
 }

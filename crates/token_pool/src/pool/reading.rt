@@ -1,24 +1,25 @@
 //! Reading a pool and its lists.
-ghost use Rattle.std.specs.Prelude.{◌≡◌, ℕ, ◌+◌, ◌≤◌, false, ◌≢◌, length, Some, None};
+ghost use Rattle.std.specs.Prelude.{◌≡◌, ℕ, ◌+◌, ◌≤◌, false, [], length, is_some, MatchOption, ⊤};
 ghost use Rattle.token_pool.specs.Pools.{there, nodes_taken};
-ghost use Rattle.token_pool.specs.Readings.{Reads, fitted, copied};
-ghost use Rattle.token_pool.specs.Nodes.{at};
-ghost use Rattle.token_pool.specs.Meanings.{pool_of, rest_of};
+ghost use Rattle.tokens.specs.Copies.{fitted, copied};
+ghost use Rattle.token_pool.specs.Nodes.{Chain, tokens_from};
+ghost use Rattle.token_pool.specs.Meanings.{pool_of};
 
-use crate::cursor::{Cursor, Token};
-use crate::list;
+use crate::iter::Tokens;
 use crate::node::Node;
 use crate::pool::TokenPool;
 
 impl TokenPool {
     /// How many nodes are free.
+    #[tactic(auto, unfolding(crate::specs::Meanings::pool_of, crate::specs::Nodes::nodes_pool))]
     pub fn free_nodes(&self) -> u32
         ensures { result ≡ (pool_of self.now).free }
     {
-        self.free
+        self.free.count
     }
 
     /// How many nodes the pool was handed: the free ones, and those that the lists take.
+    #[tactic(auto, using(crate::proofs::Models::adds_up, crate::proofs::Models::there_past), unfolding(crate::specs::Meanings::pool_of))]
     pub fn nodes_add_up(&self) -> u32
         ensures sum { (pool_of self.now).free + nodes_taken (pool_of self.now) result ≡ result }
         ensures past { (b : ℕ) → result ≤ b → there (pool_of self.now) b ≡ false }
@@ -27,33 +28,31 @@ impl TokenPool {
     }
 
     /// The head of a list, if it is there.
-    fn head(&self, list: u32) -> Option<Node>
-        ensures { elim result [
-          | Some n ↦ (at self.now.nodes.items list ≡ n) × (n.owner ≡ list)
-          | None ↦ ((at self.now.nodes.items list).owner ≢ list)
-        ] }
+    pub(super) fn head(&self, list: u32) -> Option<Node>
+        ensures there { there (pool_of self.now) list ≡ is_some result }
+        ensures count { MatchOption result ((pool_of self.now).count list ≡ 0) (λ n. (pool_of self.now).count list ≡ n.count) }
+        ensures tokens { MatchOption result ((pool_of self.now).list list ≡ []) (λ n. (pool_of self.now).list list ≡ tokens_from self.now.nodes.items n.next n.left) }
+        ensures length { MatchOption result (length ((pool_of self.now).list list) ≡ 0) (λ n. length ((pool_of self.now).list list) ≡ n.left) }
+        ensures chain { MatchOption result ⊤ (λ n. Chain self.now.nodes.items list n.next n.left) }
     {
-        list::head(&self.nodes, list)
+        self.nodes
+            .get(list as usize)
+            .copied()
+            .filter(|node| node.owner == list)
     }
 
     /// The reference count of a list, 0 if it is not there.
     pub fn count(&self, list: u32) -> u32
         ensures { result ≡ (pool_of self.now).count list }
     {
-        match self.head(list) {
-            Some(head) => head.count,
-            None => 0,
-        }
+        self.head(list).map_or(0, |head| head.count)
     }
 
     /// How many tokens a list has, 0 if it is not there.
     pub fn length(&self, list: u32) -> u32
         ensures { result ≡ length ((pool_of self.now).list list) }
     {
-        match self.head(list) {
-            Some(head) => head.left,
-            None => 0,
-        }
+        self.head(list).map_or(0, |head| head.left)
     }
 
     /// Whether a list is there: a list has a token at least.
@@ -63,29 +62,16 @@ impl TokenPool {
         self.length(list) > 0
     }
 
-    /// A cursor before the first token of a list, and at the end if the list is not there.
-    pub fn first(&self, list: u32) -> Cursor
-        ensures { rest_of self.now result ≡ (pool_of self.now).list list }
+    /// The tokens of a list, none if it is not there.
+    pub fn tokens(&self, list: u32) -> Tokens<'_>
+        ensures { result ≡ (pool_of self.now).list list }
     {
-        match self.head(list) {
-            Some(head) => Cursor {
-                list,
-                node: head.next,
-                left: head.left,
-            },
-            None => Cursor {
-                list,
-                node: 0,
-                left: 0,
-            },
+        let head = self.head(list).unwrap_or(Node::EMPTY);
+        Tokens {
+            nodes: &self.nodes,
+            next: head.next,
+            left: head.left,
         }
-    }
-
-    /// The token that a cursor stands before, with a cursor after it; None at the end.
-    pub fn token(&self, cursor: Cursor) -> Option<Token>
-        ensures { Reads (rest_of self.now) cursor result }
-    {
-        list::token(&self.nodes, cursor)
     }
 
     /// Copies the tokens of a list to the front of the words; false, and nothing, if they do not fit.
@@ -96,12 +82,9 @@ impl TokenPool {
         if self.length(list) as usize > words.len() {
             return false;
         }
-        let mut cursor = self.first(list);
-        let mut done = 0;
-        while let Some(token) = self.token(cursor) {
-            words[done] = token.code;
-            cursor = token.rest;
-            done += 1;
+        // Kept: the words by index, since no contract says what a slice holds after a `zip` over its `iter_mut`.
+        for (i, token) in self.tokens(list).enumerate() {
+            words[i] = token;
         }
         true
     }
