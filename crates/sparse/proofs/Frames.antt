@@ -1,34 +1,24 @@
 -- What a tree leaves untouched, and what leaves a tree untouched.
-use Rattle.std.proofs.Common.{◌≡◌, ℕ, zero, suc, ◌+◌, ◌-◌, ◌*◌, ◌/◌, ◌<◌, ◌≤◌, max, Bool, true, false, cond, ltb, List, [], ◌∷◌, ◌++◌, length, set, Some, None, Option, sym, refl, ap, ◌∙◌, subst, le_of_suc-le-suc, not-suc-le-zero, arith, le-ltb, lt-ltb}
+use Rattle.std.proofs.Common.{◌≡◌, ℕ, zero, suc, ◌+◌, ◌-◌, ◌<◌, ◌≤◌, max, ◌⊎◌, List, [], ◌∷◌, ◌++◌, length, set, Some, None, Option, sym, refl, ap, ◌∙◌, subst, ⊎_elim, arith, length-set}
 use Rattle.std.specs.List.{slice_get}
-use Rattle.sparse.specs.Listing.{Absent, Ascends, ins}
-use Rattle.sparse.proofs.Order.{asc_join, asc_ends}
+use Rattle.std.proofs.lemmas.Grind.{common_steps}
+use Rattle.std.proofs.lemmas.List.{get_or-set_same, set-get_or}
+use Rattle.std.proofs.lemmas.Option.{gets, get_or_from_slice_get, slice_get_read}
+use Rattle.sparse.specs.Listing.{Ascends}
+use Rattle.sparse.proofs.Order.{asc_join}
 use Rattle.sparse.specs.declared.node.Node.{Node}
-use Rattle.sparse.specs.Trees.{width, spread, listed, Rooted, Tree, Within}
+use Rattle.sparse.specs.Trees.{width, spread, listed, Rooted, Tree, Within, Apart}
 use Rattle.sparse.specs.declared.node.Tip.{Tip}
 
--- half of a level is the level below
-pub width_half : (n : ℕ) → width (suc n) / 2 ≡ width n
-width_half zero = refl
-width_half (suc n) = omega arith
-
--- a node put at an index
+-- an element put at an index
 pub nth_set_same : {X : Type 0} (xs : List X) (i : ℕ) (x : X) → i < length xs → slice_get (set xs i x) i ≡ Some x
-nth_set_same [] i x h = absurd (not-suc-le-zero h)
-nth_set_same (y ∷ xs) zero x h = refl
-nth_set_same (y ∷ xs) (suc i) x h = nth_set_same xs i x (le_of_suc-le-suc h)
+nth_set_same xs i x h = slice_get_read (set xs i x) (length (set xs i x)) i x refl (omega (arith, length-set xs i x)) (sym (get_or-set_same xs i x x h))
 
 pub nth_set_other : {X : Type 0} (xs : List X) (i j : ℕ) (x : X) → (j ≡ i → ⊥) → slice_get (set xs i x) j ≡ slice_get xs j
-nth_set_other [] i j x h = refl
-nth_set_other (y ∷ xs) zero zero x h = absurd (h refl)
-nth_set_other (y ∷ xs) zero (suc j) x h = refl
-nth_set_other (y ∷ xs) (suc i) zero x h = refl
-nth_set_other (y ∷ xs) (suc i) (suc j) x h = nth_set_other xs i j x (λ e. h (ap suc e))
+nth_set_other xs i j x h = grind (arith, common_steps, gets)
 
--- a level is at most one place more than two of the level below
-pub width_two : (n : ℕ) → width (suc n) ≤ 1 + 2 * width n
-width_two zero = omega arith
-width_two (suc n) = omega arith
+pub set_same : {X : Type 0} (xs : List X) (i : ℕ) (x : X) → slice_get xs i ≡ Some x → set xs i x ≡ xs
+set_same xs i x h = ap (set xs i) (sym (get_or_from_slice_get xs i x x h)) ∙ set-get_or xs i x
 
 module _ {V : Type 0} where
   -- what has a place in [a, b) stands as it stood
@@ -40,7 +30,7 @@ module _ {V : Type 0} where
   top None w a b f h = tt
   top (Some t) w a b f h = (h.0, h.1)
 
-  wider : (o : Option (Tip V)) (a b c d : ℕ) → c ≤ a → b ≤ d → Within a b o → Within c d o
+  pub wider : (o : Option (Tip V)) (a b c d : ℕ) → c ≤ a → b ≤ d → Within a b o → Within c d o
   wider None a b c d l r h = tt
   wider (Some t) a b c d l r h = let x = h.0 in let y = h.1 in (omega arith, omega arith)
 
@@ -94,36 +84,45 @@ module _ {V : Type 0} where
   tree_asc zero ts a b i h = omega arith
   tree_asc (suc n) ts a b i h = asc_at n ts a b (slice_get ts i) (λ a b i h. tree_asc n ts a b i h) h
 
-  -- where a node goes among nodes in order
-  pub ins_first : (v : Node V) (lo hi : ℕ) (xs : List (Node V)) → v.place < lo → Ascends lo hi xs → ins v xs ≡ v ∷ xs
-  ins_first v lo hi [] l h = refl
-  ins_first v lo hi (x ∷ xs) l h = let y = h.0 in let e = lt-ltb v.place x.place (omega arith) in rw e refl
+  -- no node, and a tree of none
+  pub listed_none : (n : ℕ) (ts : List (Tip V)) (i : ℕ) → slice_get ts i ≡ None → listed n ts i ≡ []
+  listed_none zero ts i e = refl
+  listed_none (suc n) ts i e = ap (λ o. spread o (listed n ts)) e
 
-  swung : (v x : Node V) (xs ys : List (Node V)) (b : Bool) → ins v (xs ++ ys) ≡ ins v xs ++ ys
-      → cond b (v ∷ x ∷ (xs ++ ys)) (x ∷ ins v (xs ++ ys)) ≡ cond b (v ∷ x ∷ xs) (x ∷ ins v xs) ++ ys
-  swung v x xs ys true e = refl
-  swung v x xs ys false e = ap (λ t. x ∷ t) e
+  pub tree_none : (n : ℕ) (ts : List (Tip V)) (a b i : ℕ) → slice_get ts i ≡ None → Tree n ts a b i
+  tree_none zero ts a b i e = e
+  tree_none (suc n) ts a b i e = subst (λ (o : Option (Tip V)). Rooted o (width n) a b (Tree n ts)) (sym e) tt
 
-  pub ins_left : (v : Node V) (xs ys : List (Node V)) (lo hi : ℕ) → v.place < lo → Ascends lo hi ys → ins v (xs ++ ys) ≡ ins v xs ++ ys
-  ins_left v [] ys lo hi l h = ins_first v lo hi ys l h
-  ins_left v (x ∷ xs) ys lo hi l h = swung v x xs ys (ltb v.place x.place) (ins_left v xs ys lo hi l h)
+  -- a tree in a range that starts higher
+  raise_at : (n : ℕ) (ts : List (Tip V)) (a b c hi : ℕ) (o : Option (Tip V)) → Rooted o (width n) a b (Tree n ts) → Ascends c hi (spread o (listed n ts)) → Rooted o (width n) c b (Tree n ts)
+  raise_at n ts a b c hi None h s = tt
+  raise_at n ts a b c hi (Some t) h s = (s.0, h.1, h.2, h.3)
 
-  pub ins_right : (v : Node V) (xs ys : List (Node V)) (lo hi : ℕ) → hi ≤ v.place → Ascends lo hi xs → ins v (xs ++ ys) ≡ xs ++ ins v ys
-  ins_right v [] ys lo hi l h = refl
-  ins_right v (x ∷ xs) ys lo hi l h =
-      let y = asc_ends (x.place + 1) hi xs h.1 in
-      let e = le-ltb v.place x.place (omega arith) in
-      rw e (ap (λ t. x ∷ t) (ins_right v xs ys (x.place + 1) hi l h.1))
+  pub tree_raise : (n : ℕ) (ts : List (Tip V)) (a b c hi i : ℕ) → Tree n ts a b i → Ascends c hi (listed n ts i) → Tree n ts c b i
+  tree_raise zero ts a b c hi i h s = h
+  tree_raise (suc n) ts a b c hi i h s = raise_at n ts a b c hi (slice_get ts i) h s
 
-  -- a place that no node has
-  pub absent_low : (p lo hi : ℕ) (xs : List (Node V)) → p < lo → Ascends lo hi xs → Absent p xs
-  absent_low p lo hi [] l h = tt
-  absent_low p lo hi (x ∷ xs) l h = let y = h.0 in ((λ e. omega arith), absent_low p (x.place + 1) hi xs (omega arith) h.1)
+  -- what a tree's head says, and that what is below it is in order
+  pub rooted : (m : ℕ) (ts : List (Tip V)) (at a b : ℕ) (t : Tip V) → slice_get ts at ≡ Some t → Tree (suc m) ts a b at → Rooted (Some t) (width m) a b (Tree m ts)
+  rooted m ts at a b t e h = subst (λ (o : Option (Tip V)). Rooted o (width m) a b (Tree m ts)) e h
 
-  pub absent_left : (p : ℕ) (xs ys : List (Node V)) → Absent p (xs ++ ys) → Absent p xs
-  absent_left p [] ys h = tt
-  absent_left p (x ∷ xs) ys h = (h.0, absent_left p xs ys h.1)
+  pub rest_asc : (m : ℕ) (ts : List (Tip V)) (at a b : ℕ) (t : Tip V) → slice_get ts at ≡ Some t → Tree (suc m) ts a b at → Ascends (t.node.place + 1) (max a b) (listed m ts t.left ++ listed m ts t.right)
+  rest_asc m ts at a b t e h = (subst (λ (o : Option (Tip V)). Ascends a (max a b) (spread o (listed m ts))) e (tree_asc (suc m) ts a b at h)).1
 
-  pub absent_right : (p : ℕ) (xs ys : List (Node V)) → Absent p (xs ++ ys) → Absent p ys
-  absent_right p [] ys h = h
-  absent_right p (x ∷ xs) ys h = absent_right p xs ys h.1
+  -- an index whose node lies below a range is none of those in it
+  pub below_it : (ts : List (Tip V)) (at : ℕ) (t : Tip V) (a b j : ℕ) → slice_get ts at ≡ Some t → t.node.place < a → Within a b (slice_get ts j) → j ≡ at → ⊥
+  below_it ts at t a b j e l w q =
+      let x = subst (λ (o : Option (Tip V)). Within a b o) (ap (slice_get ts) q ∙ e) w in
+      let y = x.0 in omega arith
+
+  -- nodes of one range are apart from another
+  pub apart_in : (o : Option (Tip V)) (a b c d : ℕ) → Within a b o → (b ≤ c) ⊎ (d ≤ a) → Apart c d o
+  apart_in None a b c d w s = tt
+  apart_in (Some t) a b c d w s = λ x y. let l = w.0 in let h = w.1 in ⊎_elim (λ z. omega arith) (λ z. omega arith) s
+
+  pub apart_sub : (o : Option (Tip V)) (a b c d : ℕ) → a ≤ c → d ≤ b → Apart a b o → Apart c d o
+  apart_sub None a b c d l h f = tt
+  apart_sub (Some t) a b c d l h f = λ x y. f (omega arith) (omega arith)
+
+  pub not_at : (ts : List (Tip V)) (at a b j : ℕ) (t : Tip V) → slice_get ts at ≡ Some t → a ≤ t.node.place → t.node.place < b → Apart a b (slice_get ts j) → j ≡ at → ⊥
+  not_at ts at a b j t e lo hi f q = subst (λ (o : Option (Tip V)). Apart a b o) (ap (slice_get ts) q ∙ e) f lo hi

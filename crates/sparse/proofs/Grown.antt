@@ -1,223 +1,223 @@
 -- One node more in a tree by places.
-use Rattle.std.proofs.Common.{◌≡◌, ℕ, zero, suc, ◌+◌, ◌-◌, ◌<◌, ◌≤◌, max, Bool, true, false, cond, ltb, ◌⊎◌, List, [], ◌∷◌, ◌++◌, length, set, Some, None, Option, sym, refl, ap, ◌∙◌, subst, inl, inr, ⊎_elim, arith, length-set, ltb-false, ltb-true, le-ltb, lt-ltb}
+use Rattle.std.proofs.Common.{◌≡◌, ℕ, zero, suc, ◌+◌, ◌-◌, ◌<◌, ◌≤◌, max, Bool, true, false, cond, ltb, List, [], ◌∷◌, ◌++◌, length, set, Some, None, Option, sym, refl, ap, ◌∙◌, subst, arith, ltb-false, ltb-true}
 use Rattle.std.specs.List.{slice_get}
-use Rattle.std.proofs.lemmas.Option.{slice_get_past}
-use Rattle.sparse.specs.Listing.{Absent, AbsentBehind, Ascends, ins, pushed}
+use Rattle.std.proofs.lemmas.Bool.Decides.{nat_tests}
+use Rattle.std.proofs.lemmas.Option.{slice_get_within}
+use Rattle.sparse.specs.Listing.{Absent, Ascends, ins, lesser, greater}
 use Rattle.sparse.specs.declared.node.Node.{Node}
-use Rattle.sparse.specs.Trees.{width, spread, listed, Rooted, Tree, Within, Apart, Above, Before}
 use Rattle.sparse.specs.declared.node.Tip.{Tip}
-use Rattle.sparse.proofs.Frames.{top, width_two, absent_left, absent_right, kept, tree_low, tree_asc, ins_first, ins_left, ins_right, absent_low, nth_set_same, nth_set_other}
+use Rattle.sparse.specs.declared.part.Part.{Part}
+use Rattle.sparse.specs.declared.part.Side.{Side}
+use Rattle.sparse.specs.declared.part.Side.TheVariants.{Left, Right}
+use Rattle.sparse.specs.Parts.{child, with_child, OnSide, IsHalf, InPart, TreeOf}
+use Rattle.sparse.specs.Trees.{width, spread, listed, Rooted, Tree, Within, Apart, Above}
+use Rattle.sparse.proofs.Order.{asc_ends}
+use Rattle.sparse.proofs.Frames.{kept, tree_low, tree_none, listed_none, rooted, rest_asc, below_it, not_at, nth_set_same, nth_set_other}
+use Rattle.sparse.proofs.Halves.{at_half, on_half, stands, half_tree, half_within, half_holds}
+use Rattle.sparse.proofs.Grafts.{opposite, tip, joined, Changed, open_at, other_asc, relinked}
 
 module _ {V : Type 0} where
-  -- there is a node, or there is none
-  pub clash : (t : Tip V) (o : Option (Tip V)) → o ≡ Some t → o ≡ None → ⊥
-  clash t o p q = let z : ◌≡◌ {A = ℕ} 0 1 = cc in omega arith
+  -- where a node goes among nodes in order
+  ins_first : (v : Node V) (lo hi : ℕ) (xs : List (Node V)) → v.place < lo → Ascends lo hi xs → ins v xs ≡ v ∷ xs
+  ins_first v lo hi [] l h = refl
+  ins_first v lo hi (x ∷ xs) l h = let y = h.0 in grind (arith, nat_tests)
 
-  -- a node with two branches
-  abbrev pub tip : Node V → ℕ → ℕ → Tip V
-  tip v l r = record { node = v; left = l; right = r }
+  ins_left : (v : Node V) (xs ys : List (Node V)) (lo hi : ℕ) → v.place < lo → Ascends lo hi ys → ins v (xs ++ ys) ≡ ins v xs ++ ys
+  ins_left v [] ys lo hi l h = ins_first v lo hi ys l h
+  ins_left v (x ∷ xs) ys lo hi l h = let rest = ins_left v xs ys lo hi l h in grind (arith, nat_tests)
 
-  -- an index whose node lies below a range, or past it, is none of those in it
-  pub below_it : (ts : List (Tip V)) (at : ℕ) (t : Tip V) (a b j : ℕ) → slice_get ts at ≡ Some t → t.node.place < a → Within a b (slice_get ts j) → j ≡ at → ⊥
-  below_it ts at t a b j e l w q =
-      let x = subst (λ (o : Option (Tip V)). Within a b o) (ap (slice_get ts) q ∙ e) w in
-      let y = x.0 in omega arith
+  ins_right : (v : Node V) (xs ys : List (Node V)) (lo hi : ℕ) → hi ≤ v.place → Ascends lo hi xs → ins v (xs ++ ys) ≡ xs ++ ins v ys
+  ins_right v [] ys lo hi l h = refl
+  ins_right v (x ∷ xs) ys lo hi l h = let y = asc_ends (x.place + 1) hi xs h.1 in let rest = ins_right v xs ys (x.place + 1) hi l h.1 in grind (arith, nat_tests)
 
-  -- what a tree's head says, and that what is below it is in order
-  pub rooted : (m : ℕ) (ts : List (Tip V)) (at a b : ℕ) (t : Tip V) → slice_get ts at ≡ Some t → Tree (suc m) ts a b at → Rooted (Some t) (width m) a b (Tree m ts)
-  rooted m ts at a b t e h = subst (λ (o : Option (Tip V)). Rooted o (width m) a b (Tree m ts)) e h
+  -- a place that no node has
+  pub absent_low : (p lo hi : ℕ) (xs : List (Node V)) → p < lo → Ascends lo hi xs → Absent p xs
+  absent_low p lo hi [] l h = tt
+  absent_low p lo hi (x ∷ xs) l h = let y = h.0 in ((λ e. omega arith), absent_low p (x.place + 1) hi xs (omega arith) h.1)
 
-  pub rest_asc : (m : ℕ) (ts : List (Tip V)) (at a b : ℕ) (t : Tip V) → slice_get ts at ≡ Some t → Tree (suc m) ts a b at → Ascends (t.node.place + 1) (max a b) (listed m ts t.left ++ listed m ts t.right)
-  rest_asc m ts at a b t e h = (subst (λ (o : Option (Tip V)). Ascends a (max a b) (spread o (listed m ts))) e (tree_asc (suc m) ts a b at h)).1
+  pub absent_left : (p : ℕ) (xs ys : List (Node V)) → Absent p (xs ++ ys) → Absent p xs
+  absent_left p [] ys h = tt
+  absent_left p (x ∷ xs) ys h = (h.0, absent_left p xs ys h.1)
 
-  -- the lesser of two nodes stays at the head, and the other is to go down
-  pub settled_new : (n : ℕ) (ts : List (Tip V)) (at a b : ℕ) (v : Node V) (t : Tip V) → slice_get ts at ≡ Some t → at < length ts → Tree n ts a b at → a ≤ v.place → v.place < t.node.place
-      → (Tree n (set ts at (tip v t.left t.right)) a b at)
-      × (pushed t.node (listed n (set ts at (tip v t.left t.right)) at) ≡ ins v (listed n ts at))
-      × AbsentBehind t.node.place (listed n (set ts at (tip v t.left t.right)) at)
-      × Before t.node.place (slice_get (set ts at (tip v t.left t.right)) at)
-      × (t.node.place < b)
-  settled_new zero ts at a b v t e l h low less = absurd (clash t (slice_get ts at) e h)
-  settled_new (suc m) ts at a b v t e l h low less =
-      let us = set ts at (tip v t.left t.right) in
+  pub absent_right : (p : ℕ) (xs ys : List (Node V)) → Absent p (xs ++ ys) → Absent p ys
+  absent_right p [] ys h = h
+  absent_right p (x ∷ xs) ys h = absent_right p xs ys h.1
+
+  -- a node pushed past the head, and one that is not behind it
+  abbrev pub pushed : Node V → List (Node V) → List (Node V)
+  pushed v [] = []
+  pushed v (x ∷ xs) = x ∷ ins v xs
+
+  abbrev pub AbsentBehind : ℕ → List (Node V) → Type 0
+  AbsentBehind p [] = Unit {0}
+  AbsentBehind p (x ∷ xs) = Absent p xs
+
+  -- of a head and a node the lesser stays, and the other goes on
+  record Ordered (x v : Node V) (rest : List (Node V)) (first second : Node V) : Type 0 where
+    pub list : first ∷ ins second rest ≡ ins v (x ∷ rest)
+    pub absent : Absent second.place rest
+    pub before : first.place < second.place
+    pub less : first.place ≤ x.place
+    pub low : (a : ℕ) → a ≤ v.place → a ≤ x.place → a ≤ first.place
+    pub end : (b : ℕ) → v.place < b → x.place < b → second.place < b
+
+  ordered : (x v : Node V) (rest : List (Node V)) (hi : ℕ) → Ascends (x.place + 1) hi rest → Absent v.place (x ∷ rest) → (c : Bool) → ltb v.place x.place ≡ c → Ordered x v rest (cond c v x) (cond c x v)
+  ordered x v rest hi up none true e =
+      let l = ltb-true v.place x.place e in
+      record {
+        list = rw e (ap (λ t. v ∷ t) (ins_first x (x.place + 1) hi rest (omega arith) up));
+        absent = absent_low x.place (x.place + 1) hi rest (omega arith) up;
+        before = l;
+        less = omega arith;
+        low = λ a p q. p;
+        end = λ b p q. q;
+      }
+  ordered x v rest hi up none false e =
+      let l = ltb-false v.place x.place e in
+      let other = none.0 in
+      record { list = rw e refl; absent = none.1; before = omega arith; less = omega arith; low = λ a p q. q; end = λ b p q. p }
+
+  -- what a tree is whose head is the lesser of the old one and another node
+  pub record Settled (n : ℕ) (ts : List (Tip V)) (at a b : ℕ) (v : Node V) (t : Tip V) (first second : Node V) : Type 0 where
+    pub now : slice_get (set ts at (tip first t.left t.right)) at ≡ Some (tip first t.left t.right)
+    pub tree : Tree n (set ts at (tip first t.left t.right)) a b at
+    pub list : pushed second (listed n (set ts at (tip first t.left t.right)) at) ≡ ins v (listed n ts at)
+    pub absent : AbsentBehind second.place (listed n (set ts at (tip first t.left t.right)) at)
+    pub before : first.place < second.place
+    pub low : a ≤ first.place
+    pub end : second.place < b
+
+  pub settled : (n : ℕ) (ts : List (Tip V)) (at a b : ℕ) (v : Node V) (t : Tip V) (first second : Node V) → first ≡ lesser t.node v → second ≡ greater t.node v
+      → slice_get ts at ≡ Some t → Tree n ts a b at → a ≤ v.place → v.place < b → Absent v.place (listed n ts at) → Settled n ts at a b v t first second
+  settled zero ts at a b v t first second e f now tree low end none = cc
+  settled (suc m) ts at a b v t first second e f now tree low end none =
+      let z = tip first t.left t.right in
+      let us = set ts at z in
       let p = t.node.place in
-      let w = width m in
-      let hs = rooted m ts at a b t e h in
-      let same : slice_get us at ≡ Some (tip v t.left t.right) = nth_set_same ts at (tip v t.left t.right) l in
-      let L = kept m ts us (p + 1) (b - w) t.left hs.2 (λ j i. nth_set_other ts at j _ (below_it ts at t (p + 1) (b - w) j e (omega arith) i)) in
-      let R = kept m ts us (max (p + 1) (b - w)) b t.right hs.3 (λ j i. nth_set_other ts at j _ (below_it ts at t (max (p + 1) (b - w)) b j e (omega arith) i)) in
+      let mid = b - width m in
+      let root = rooted m ts at a b t now tree in
       let rest = listed m ts t.left ++ listed m ts t.right in
-      let E : listed (suc m) us at ≡ v ∷ rest = ap (λ o. spread o (listed m us)) same ∙ (λ k. v ∷ (L.1 k ++ R.1 k)) in
-      let up = rest_asc m ts at a b t e h in
-      let hi = hs.1 in (
-        subst (λ (o : Option (Tip V)). Rooted o w a b (Tree m us)) (sym same)
-            (low, omega arith, tree_low m us (p + 1) (b - w) (v.place + 1) t.left (omega arith) L.0, tree_low m us (max (p + 1) (b - w)) b (max (v.place + 1) (b - w)) t.right (omega arith) R.0),
-        ap (pushed t.node) E ∙ ap (λ x. v ∷ x) (ins_first t.node (p + 1) (max a b) rest (omega arith) up)
-            ∙ sym (ap (λ o. ins v (spread o (listed m ts))) e ∙ ap (λ c. cond c (v ∷ t.node ∷ rest) (t.node ∷ ins v rest)) (lt-ltb v.place p less)),
-        subst (λ (x : List (Node V)). AbsentBehind p x) (sym E) (absent_low p (p + 1) (max a b) rest (omega arith) up),
-        subst (λ (o : Option (Tip V)). Before p o) (sym same) less,
-        hi,
-      )
+      let whole : listed (suc m) ts at ≡ t.node ∷ rest = ap (λ o. spread o (listed m ts)) now in
+      let o : Ordered t.node v rest first second =
+      subst (λ (x : Node V). Ordered t.node v rest x second) (sym e) (subst (λ (y : Node V). Ordered t.node v rest (lesser t.node v) y) (sym f)
+      (ordered t.node v rest (max a b) (rest_asc m ts at a b t now tree) (subst (λ (x : List (Node V)). Absent v.place x) whole none) (ltb v.place p) refl)) in
+      let less = o.less in
+      let hi = root.1 in
+      let same : slice_get us at ≡ Some z = nth_set_same ts at z (slice_get_within ts at t now) in
+      let L = kept m ts us (p + 1) mid t.left root.2 (λ j i. nth_set_other ts at j z (below_it ts at t (p + 1) mid j now (omega arith) i)) in
+      let R = kept m ts us (max (p + 1) mid) b t.right root.3 (λ j i. nth_set_other ts at j z (below_it ts at t (max (p + 1) mid) b j now (omega arith) i)) in
+      let E : listed (suc m) us at ≡ first ∷ rest = ap (λ o. spread o (listed m us)) same ∙ (λ k. first ∷ (L.1 k ++ R.1 k)) in
+      record {
+        now = same;
+        tree = subst (λ (o : Option (Tip V)). Rooted o (width m) a b (Tree m us)) (sym same)
+            (o.low a low root.0, omega arith, tree_low m us (p + 1) mid (first.place + 1) t.left (omega arith) L.0, tree_low m us (max (p + 1) mid) b (max (first.place + 1) mid) t.right (omega arith) R.0);
+        list = ap (pushed second) E ∙ o.list ∙ sym (ap (ins v) whole);
+        absent = subst (λ (x : List (Node V)). AbsentBehind second.place x) (sym E) o.absent;
+        before = o.before;
+        low = o.low a low root.0;
+        end = o.end b end root.1;
+      }
 
-  pub settled_old : (n : ℕ) (ts : List (Tip V)) (at a b : ℕ) (v : Node V) (t : Tip V) → slice_get ts at ≡ Some t → Tree n ts a b at → t.node.place ≤ v.place → Absent v.place (listed n ts at)
-      → (pushed v (listed n ts at) ≡ ins v (listed n ts at)) × AbsentBehind v.place (listed n ts at) × Before v.place (slice_get ts at)
-  settled_old zero ts at a b v t e h le none = absurd (clash t (slice_get ts at) e h)
-  settled_old (suc m) ts at a b v t e h le none =
-      let p = t.node.place in
-      let rest = listed m ts t.left ++ listed m ts t.right in
-      let E : listed (suc m) ts at ≡ t.node ∷ rest = ap (λ o. spread o (listed m ts)) e in
-      let N = subst (λ (x : List (Node V)). Absent v.place x) E none in
-      let ne = N.0 in (
-        ap (pushed v) E ∙ sym (ap (ins v) E ∙ ap (λ c. cond c (v ∷ t.node ∷ rest) (t.node ∷ ins v rest)) (le-ltb v.place p le)),
-        subst (λ (x : List (Node V)). AbsentBehind v.place x) (sym E) N.1,
-        subst (λ (o : Option (Tip V)). Before v.place o) (sym e) (omega arith),
-      )
+  -- a free node, past a range, is in the row, and is none of those in the range
+  pub above_lt : (ts : List (Tip V)) (b i : ℕ) → Above b (slice_get ts i) → i < length ts
+  above_lt [] b i h = absurd h
+  above_lt (t ∷ ts) b zero h = omega arith
+  above_lt (t ∷ ts) b (suc i) h = let l = above_lt ts b i h in omega arith
 
-  -- no node, and a tree of none
-  pub listed_none : (n : ℕ) (ts : List (Tip V)) (i : ℕ) → slice_get ts i ≡ None → listed n ts i ≡ []
-  listed_none zero ts i e = refl
-  listed_none (suc n) ts i e = ap (λ o. spread o (listed n ts)) e
+  above_less : (b c : ℕ) (o : Option (Tip V)) → c ≤ b → Above b o → Above c o
+  above_less b c None l h = h
+  above_less b c (Some t) l h = omega arith
 
-  pub tree_none : (n : ℕ) (ts : List (Tip V)) (a b i : ℕ) → slice_get ts i ≡ None → Tree n ts a b i
-  tree_none zero ts a b i e = e
-  tree_none (suc n) ts a b i e = subst (λ (o : Option (Tip V)). Rooted o (width n) a b (Tree n ts)) (sym e) tt
+  past_in : (o : Option (Tip V)) (a b : ℕ) → Above b o → Within a b o → ⊥
+  past_in None a b h w = h
+  past_in (Some t) a b h w = let x = w.1 in omega arith
 
-  -- a node past a range is in the row
-  some_lt : (ts : List (Tip V)) (b i : ℕ) (c : Bool) → ltb i (length ts) ≡ c → Above b (slice_get ts i) → i < length ts
-  some_lt ts b i true e h = ltb-true i (length ts) e
-  some_lt ts b i false e h = absurd (subst (λ (o : Option (Tip V)). Above b o) (slice_get_past ts i (ltb-false i (length ts) e)) h)
-
-  pub beyond_lt : (ts : List (Tip V)) (b i : ℕ) → Above b (slice_get ts i) → i < length ts
-  beyond_lt ts b i h = some_lt ts b i (ltb i (length ts)) refl h
-
-  -- what a tree is with one node more
-  abbrev pub Done : ℕ → List (Tip V) → List (Tip V) → ℕ → ℕ → ℕ → ℕ → ℕ → Node V → Type 0
-  Done n ts xs at r a b free v = (listed n xs r ≡ ins v (listed n ts at)) × Tree n xs a b r × ((j : ℕ) → (j ≡ free → ⊥) → Apart a b (slice_get ts j) → slice_get xs j ≡ slice_get ts j)
+  not_free : (ts : List (Tip V)) (free a b j : ℕ) → Above b (slice_get ts free) → Within a b (slice_get ts j) → j ≡ free → ⊥
+  not_free ts free a b j h w q = past_in (slice_get ts free) a b h (subst (λ (i : ℕ). Within a b (slice_get ts i)) q w)
 
   -- where there is no node, the free one takes the place
-  pub taken : (n : ℕ) (ts : List (Tip V)) (at a b free q : ℕ) (v : Node V) → a ≤ v.place → v.place < b → b ≤ a + width n → length ts ≤ at → length ts ≤ q → Above b (slice_get ts free)
-      → Done n ts (set ts free (tip v q q)) at free a b free v
-  taken zero ts at a b free q v lo hi fit out gone h = absurd (omega arith)
-  taken (suc m) ts at a b free q v lo hi fit out gone h =
-      let us = set ts free (tip v q q) in
-      let k = length-set ts free (tip v q q) in
-      let same : slice_get us free ≡ Some (tip v q q) = nth_set_same ts free (tip v q q) (beyond_lt ts b free h) in
-      let none : slice_get us q ≡ None = slice_get_past us q (omega arith) in
-      let void : slice_get ts at ≡ None = slice_get_past ts at out in
-      let empty = listed_none m us q none in (
-        ap (λ o. spread o (listed m us)) same ∙ (λ i. v ∷ (empty i ++ empty i)) ∙ sym (ap (λ o. ins v (spread o (listed m ts))) void),
-        subst (λ (o : Option (Tip V)). Rooted o (width m) a b (Tree m us)) (sym same) (lo, hi, tree_none m us (v.place + 1) (b - width m) q none, tree_none m us (max (v.place + 1) (b - width m)) b q none),
-        (λ j f p. nth_set_other ts free j _ f),
-      )
+  pub leaf : (n : ℕ) (ts : List (Tip V)) (at a b free : ℕ) (v : Node V) → a ≤ v.place → v.place < b → b ≤ a + width n → slice_get ts at ≡ None → Above b (slice_get ts free)
+      → Changed (λ j. j ≡ free → ⊥) n ts (set ts free (tip v at at)) free a b (ins v (listed n ts at))
+  leaf zero ts at a b free v lo hi fit void h = absurd (omega arith)
+  leaf (suc m) ts at a b free v lo hi fit void h =
+      let us = set ts free (tip v at at) in
+      let same : slice_get us free ≡ Some (tip v at at) = nth_set_same ts free (tip v at at) (above_lt ts b free h) in
+      let none : slice_get us at ≡ None = nth_set_other ts free at (tip v at at) (λ q. not_free ts free a b at h (subst (λ (o : Option (Tip V)). Within a b o) (sym void) tt) q) ∙ void in
+      let empty = listed_none m us at none in
+      record {
+        list = ap (λ o. spread o (listed m us)) same ∙ (λ i. v ∷ (empty i ++ empty i)) ∙ sym (ap (λ o. ins v (spread o (listed m ts))) void);
+        tree = subst (λ (o : Option (Tip V)). Rooted o (width m) a b (Tree m us)) (sym same) (lo, hi, tree_none m us (v.place + 1) (b - width m) at none, tree_none m us (max (v.place + 1) (b - width m)) b at none);
+        frame = λ j f p. nth_set_other ts free j _ f;
+      }
 
-  -- nodes of one range are apart from another
-  pub apart_in : (o : Option (Tip V)) (a b c d : ℕ) → Within a b o → (b ≤ c) ⊎ (d ≤ a) → Apart c d o
-  apart_in None a b c d w s = tt
-  apart_in (Some t) a b c d w s = λ x y. let l = w.0 in let h = w.1 in ⊎_elim (λ z. omega arith) (λ z. omega arith) s
+  -- a node that goes to a side
+  ins_side : (s : Side) (m : ℕ) (ts : List (Tip V)) (at a b : ℕ) (t : Tip V) (d : Node V) → slice_get ts at ≡ Some t → Tree (suc m) ts a b at → t.node.place < d.place → OnSide s d.place (b - width m)
+      → t.node ∷ joined s (ins d (listed m ts (child s t))) (listed m ts (child (opposite s) t)) ≡ pushed d (listed (suc m) ts at)
+  ins_side Left m ts at a b t d now tree l o =
+      ap (λ x. t.node ∷ x) (sym (ins_left d (listed m ts t.left) (listed m ts t.right) (max (t.node.place + 1) (b - width m)) _ (omega arith) (other_asc Left m ts at a b t now tree)))
+      ∙ sym (ap (pushed d) (open_at Left m ts at t now))
+  ins_side Right m ts at a b t d now tree l o =
+      ap (λ x. t.node ∷ x) (sym (ins_right d (listed m ts t.left) (listed m ts t.right) (t.node.place + 1) _ (omega arith) (other_asc Right m ts at a b t now tree)))
+      ∙ sym (ap (pushed d) (open_at Right m ts at t now))
 
-  pub apart_sub : (o : Option (Tip V)) (a b c d : ℕ) → a ≤ c → d ≤ b → Apart a b o → Apart c d o
-  apart_sub None a b c d l h f = tt
-  apart_sub (Some t) a b c d l h f = λ x y. f (omega arith) (omega arith)
+  absent_side : (s : Side) (p : ℕ) (x : Node V) (xs ys : List (Node V)) → AbsentBehind p (x ∷ joined s xs ys) → Absent p xs
+  absent_side Left p x xs ys h = absent_left p xs ys h
+  absent_side Right p x xs ys h = absent_right p ys xs h
 
-  past_in : (o : Option (Tip V)) (a b c : ℕ) → Above b o → c ≤ b → Within a c o → ⊥
-  past_in None a b c h l w = h
-  past_in (Some t) a b c h l w = let x = w.1 in omega arith
+  -- what a node that goes to a half asks there
+  pub record Asks (h : Part) (ss : List (Tip V)) (i free : ℕ) (d : Node V) : Type 0 where
+    pub tree : TreeOf h ss i
+    pub place : InPart h d.place
+    pub absent : Absent d.place (listed h.level ss i)
+    pub spare : Above h.end (slice_get ss free)
 
-  beyond_not : (ts : List (Tip V)) (free a b c j : ℕ) → Above b (slice_get ts free) → c ≤ b → Within a c (slice_get ts j) → j ≡ free → ⊥
-  beyond_not ts free a b c j h l w q =
-      past_in (slice_get ts free) a b c h l (subst (λ (i : ℕ). Within a c (slice_get ts i)) q w)
+  module _ (s : Side) (q h : Part) (ts : List (Tip V)) (at free i : ℕ) (v : Node V) (t : Tip V) (first second : Node V) (half : IsHalf s first.place q h)
+      (lesser_is : first ≡ lesser t.node v) (greater_is : second ≡ greater t.node v) (now : slice_get ts at ≡ Some t) (tree : TreeOf q ts at)
+      (low : q.low ≤ v.place) (end : v.place < q.end) (none : Absent v.place (listed q.level ts at)) (fresh : Above q.end (slice_get ts free))
+      (is : i ≡ child s (tip first t.left t.right)) (side : OnSide s second.place (q.end - width (q.level - 1))) where
+    abbrev head : Tip V
+    head = tip first t.left t.right
 
-  pub not_at : (ts : List (Tip V)) (at a b j : ℕ) (m : ℕ) (t : Tip V) → slice_get ts at ≡ Some t → a ≤ t.node.place → t.node.place < b → Apart a b (slice_get ts j) → j ≡ at → ⊥
-  not_at ts at a b j m t e lo hi f q = subst (λ (o : Option (Tip V)). Apart a b o) (ap (slice_get ts) q ∙ e) f lo hi
+    abbrev ss : List (Tip V)
+    ss = set ts at head
 
-  module _ (m : ℕ) (ts ss us : List (Tip V)) (at a b free r : ℕ) (v d : Node V) (s t : Tip V)
-      (was : slice_get ts at ≡ Some s) (sin : Within a b (Some s)) (now : slice_get ss at ≡ Some t) (tree : Tree (suc m) ss a b at) (long : at < length us)
-      (frame : (j : ℕ) → (j ≡ at → ⊥) → slice_get ss j ≡ slice_get ts j)
-      (list : pushed d (listed (suc m) ss at) ≡ ins v (listed (suc m) ts at)) (fresh : Above b (slice_get ts free)) (above : t.node.place < d.place) where
-    free_at : at ≡ free → ⊥
-    free_at q = beyond_not ts free a b b at fresh (omega arith) (subst (λ (o : Option (Tip V)). Within a b o) (sym was) sin) q
+    st : Settled q.level ts at q.low q.end v t first second
+    st = settled q.level ts at q.low q.end v t first second lesser_is greater_is now tree low end none
 
-    fresh2 : Above b (slice_get ss free)
-    fresh2 = subst (λ (o : Option (Tip V)). Above b o) (sym (frame free (λ q. free_at (sym q)))) fresh
+    in_part : Within q.low q.end (Some t)
+    in_part = stands q ts at t now tree
 
-    root : Rooted (Some t) (width m) a b (Tree m ss)
-    root = rooted m ss at a b t now tree
+    free_kept : slice_get ss free ≡ slice_get ts free
+    free_kept = nth_set_other ts at free head (λ e. not_free ts free q.low q.end at fresh (subst (λ (o : Option (Tip V)). Within q.low q.end o) (sym now) in_part) (sym e))
 
-    pub asks : b ≤ a + width (suc m) → AbsentBehind d.place (listed (suc m) ss at)
-        → (Tree m ss (t.node.place + 1) (b - width m) t.left) × (Tree m ss (max (t.node.place + 1) (b - width m)) b t.right)
-        × Absent d.place (listed m ss t.left) × Absent d.place (listed m ss t.right) × Above b (slice_get ss free)
-        × (b - width m ≤ t.node.place + 1 + width m) × (b ≤ max (t.node.place + 1) (b - width m) + width m)
-    asks fit none =
-        let two = width_two m in
-        let lo = root.0 in
-        let N : Absent d.place (listed m ss t.left ++ listed m ss t.right) = subst (λ (o : Option (Tip V)). AbsentBehind d.place (spread o (listed m ss))) now none in
-        (root.2, root.3, absent_left d.place (listed m ss t.left) (listed m ss t.right) N, absent_right d.place (listed m ss t.left) (listed m ss t.right) N, fresh2, omega arith, omega arith)
+    still_free : Above q.end (slice_get ss free)
+    still_free = subst (λ (o : Option (Tip V)). Above q.end o) (sym free_kept) fresh
 
-    -- the whole frame, from that of the part of the tree that was changed
-    framed : (x y : ℕ) (z : Tip V) → a ≤ x → y ≤ b → ((j : ℕ) → (j ≡ free → ⊥) → Apart x y (slice_get ss j) → slice_get us j ≡ slice_get ss j)
-        → (j : ℕ) → (j ≡ free → ⊥) → Apart a b (slice_get ts j) → slice_get (set us at z) j ≡ slice_get ts j
-    framed x y z l h f j nf ap =
-        let na = not_at ts at a b j m s was sin.0 sin.1 ap in
-        let e = frame j na in
-        nth_set_other us at j z na ∙ f j nf (apart_sub (slice_get ss j) a b x y l h (subst (λ (o : Option (Tip V)). Apart a b o) (sym e) ap)) ∙ e
+    pub asks : Asks h ss i free second
+    asks =
+        let gone = at_half (λ n c d. AbsentBehind second.place (listed n ss at) → Absent second.place (listed h.level ss (child s head))) s first.place q h half
+        (λ a. absent_side s second.place first _ _ (subst (λ (x : List (Node V)). AbsentBehind second.place x) (open_at s h.level ss at head st.now) a)) st.absent in
+        record {
+          tree = subst (λ (k : ℕ). TreeOf h ss k) (sym is) (half_tree s q h ss at head half st.now st.tree);
+          place = half_holds s first.place second.place q h half st.before st.end side;
+          absent = subst (λ (k : ℕ). Absent second.place (listed h.level ss k)) (sym is) gone;
+          spare = above_less q.end h.end (slice_get ss free) (half_within s first.place q h half) still_free;
+        }
 
-    pub left_done : d.place < b - width m → listed m us r ≡ ins d (listed m ss t.left) → Tree m us (t.node.place + 1) (b - width m) r
-        → ((j : ℕ) → (j ≡ free → ⊥) → Apart (t.node.place + 1) (b - width m) (slice_get ss j) → slice_get us j ≡ slice_get ss j)
-        → Done (suc m) ts (set us at (tip t.node r t.right)) at at a b free v
-    left_done low new grown f =
-        let z = tip t.node r t.right in
-        let xs = set us at z in
-        let p = t.node.place in
-        let mid = b - width m in
-        let lo = root.0 in
-        let hi = root.1 in
-        let same : slice_get xs at ≡ Some z = nth_set_same us at z long in
-        let held : slice_get us at ≡ Some t = f at free_at (subst (λ (o : Option (Tip V)). Apart (p + 1) mid o) (sym now) (λ x y. omega arith)) ∙ now in
-        let L = kept m us xs (p + 1) mid r grown (λ j w. nth_set_other us at j z (below_it us at t (p + 1) mid j held (omega arith) w)) in
-        let R = kept m ss xs (max (p + 1) mid) b t.right root.3 (λ j w.
-        nth_set_other us at j z (below_it ss at t (max (p + 1) mid) b j now (omega arith) w)
-        ∙ f j (beyond_not ss free (max (p + 1) mid) b b j fresh2 (omega arith) w) (apart_in (slice_get ss j) (max (p + 1) mid) b (p + 1) mid w (inr (omega arith)))) in
-        let E : listed (suc m) xs at ≡ t.node ∷ (ins d (listed m ss t.left) ++ listed m ss t.right) =
-        ap (λ o. spread o (listed m xs)) same ∙ (λ i. t.node ∷ ((L.1 ∙ new) i ++ R.1 i)) in
-        let up = tree_asc m ss (max (p + 1) mid) b t.right root.3 in (
-          E ∙ ap (λ x. t.node ∷ x) (sym (ins_left d (listed m ss t.left) (listed m ss t.right) (max (p + 1) mid) _ (omega arith) up))
-              ∙ sym (ap (λ o. pushed d (spread o (listed m ss))) now) ∙ list,
-          subst (λ (o : Option (Tip V)). Rooted o (width m) a b (Tree m xs)) (sym same) (lo, hi, L.0, R.0),
-          framed (p + 1) mid z (omega arith) (omega arith) f,
-        )
-
-    pub right_done : b - width m ≤ d.place → listed m us r ≡ ins d (listed m ss t.right) → Tree m us (max (t.node.place + 1) (b - width m)) b r
-        → ((j : ℕ) → (j ≡ free → ⊥) → Apart (max (t.node.place + 1) (b - width m)) b (slice_get ss j) → slice_get us j ≡ slice_get ss j)
-        → Done (suc m) ts (set us at (tip t.node t.left r)) at at a b free v
-    right_done low new grown f =
-        let z = tip t.node t.left r in
-        let xs = set us at z in
-        let p = t.node.place in
-        let mid = b - width m in
-        let lo = root.0 in
-        let hi = root.1 in
-        let same : slice_get xs at ≡ Some z = nth_set_same us at z long in
-        let held : slice_get us at ≡ Some t = f at free_at (subst (λ (o : Option (Tip V)). Apart (max (p + 1) mid) b o) (sym now) (λ x y. omega arith)) ∙ now in
-        let R = kept m us xs (max (p + 1) mid) b r grown (λ j w. nth_set_other us at j z (below_it us at t (max (p + 1) mid) b j held (omega arith) w)) in
-        let L = kept m ss xs (p + 1) mid t.left root.2 (λ j w.
-        nth_set_other us at j z (below_it ss at t (p + 1) mid j now (omega arith) w)
-        ∙ f j (beyond_not ss free (p + 1) b mid j fresh2 (omega arith) w) (apart_in (slice_get ss j) (p + 1) mid (max (p + 1) mid) b w (inl (omega arith)))) in
-        let E : listed (suc m) xs at ≡ t.node ∷ (listed m ss t.left ++ ins d (listed m ss t.right)) =
-        ap (λ o. spread o (listed m xs)) same ∙ (λ i. t.node ∷ (L.1 i ++ (R.1 ∙ new) i)) in
-        let up = tree_asc m ss (p + 1) mid t.left root.2 in (
-          E ∙ ap (λ x. t.node ∷ x) (sym (ins_right d (listed m ss t.left) (listed m ss t.right) (p + 1) _ (omega arith) up))
-              ∙ sym (ap (λ o. pushed d (spread o (listed m ss))) now) ∙ list,
-          subst (λ (o : Option (Tip V)). Rooted o (width m) a b (Tree m xs)) (sym same) (lo, hi, L.0, R.0),
-          framed (max (p + 1) mid) b z (omega arith) (omega arith) f,
-        )
-
-  pub some_in : (m : ℕ) (ts : List (Tip V)) (at a b : ℕ) (s : Tip V) → slice_get ts at ≡ Some s → Tree (suc m) ts a b at → Within a b (Some s)
-  some_in m ts at a b s e h = top (Some s) (width m) a b (Tree m ts) (rooted m ts at a b s e h)
-
-  pub beyond_less : (b c : ℕ) (o : Option (Tip V)) → c ≤ b → Above b o → Above c o
-  beyond_less b c None l h = h
-  beyond_less b c (Some t) l h = omega arith
-
-pub some_level : (n a b p : ℕ) → a ≤ p → p < b → b ≤ a + width n → n ≡ suc (n - 1)
-some_level zero a b p l h f = absurd (omega arith)
-some_level (suc n) a b p l h f = omega arith
+    -- the whole tree, once the node is in the half
+    pub grown : (us : List (Tip V)) (r : ℕ) → at < length us → listed h.level us r ≡ ins second (listed h.level ss i) → TreeOf h us r
+        → ((j : ℕ) → (j ≡ free → ⊥) → Apart h.low h.end (slice_get ss j) → slice_get us j ≡ slice_get ss j)
+        → Changed (λ j. j ≡ free → ⊥) q.level ts (set us at (with_child s r head)) at q.low q.end (ins v (listed q.level ts at))
+    grown us r long list new frame =
+        let want = ins second (listed h.level ss (child s head)) in
+        let d = relinked (λ j. j ≡ free → ⊥) s q h ss us at r head want half st.now st.tree long (λ j w. not_free ss free q.low q.end j still_free w)
+        (record { list = list ∙ ap (λ k. ins second (listed h.level ss k)) is; tree = new; frame = frame }) in
+        let pushes = at_half (λ n c e. Tree n ss q.low q.end at → first ∷ joined s want (listed h.level ss (child (opposite s) head)) ≡ pushed second (listed n ss at)) s first.place q h half
+        (λ tr. ins_side s h.level ss at q.low q.end head second st.now tr st.before (on_half s s first.place second.place q h half side)) st.tree in
+        record {
+          list = d.list ∙ pushes ∙ st.list;
+          tree = d.tree;
+          frame = λ j other ap.
+              let e = nth_set_other ts at j head (not_at ts at q.low q.end j t now in_part.0 in_part.1 ap) in
+              d.frame j other (subst (λ (o : Option (Tip V)). Apart q.low q.end o) (sym e) ap) ∙ e;
+        }

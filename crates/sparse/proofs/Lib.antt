@@ -1,10 +1,14 @@
 pub mod Order
+pub mod Widths
 pub mod Frames
+pub mod Halves
+pub mod Grafts
 pub mod Grown
 pub mod Finds
 pub mod Cuts
 pub mod Overs
 pub mod Chains
+pub mod Fills
 pub mod Looks
 pub mod Writes
 pub mod Scans

@@ -1,7 +1,8 @@
 -- Nodes in the order of their places, and what stands at a place.
-use Rattle.std.specs.Prelude.{ℕ, ◌+◌, ◌≤◌, cond, List, [], ◌∷◌, Some, None, Option, ◌==◌, ◌≢◌, nat_le, nat_lt}
+use Rattle.std.specs.Prelude.{ℕ, ◌+◌, ◌≤◌, Bool, cond, not, List, [], ◌∷◌, Some, None, Option, ◌==◌, ◌≢◌, nat_le, nat_lt}
+use Rattle.std.specs.List.{list_all}
 use Rattle.stores.specs.declared.cell.Cell.{Cell}
-use Rattle.stores.specs.Cells.{cell}
+use Rattle.stores.specs.Cells.{cell, is_blank}
 use Rattle.sparse.specs.declared.node.Node.{Node}
 use Rattle.sparse.specs.declared.node.Tip.{Tip}
 
@@ -58,12 +59,14 @@ abbrev pub behind : {V : Type 0} → List (Node V) → List (Node V)
 behind [] = []
 behind (x ∷ xs) = xs
 
--- a node put behind the first of nodes in order
-abbrev pub pushed : {V : Type 0} → Node V → List (Node V) → List (Node V)
-pushed v [] = []
-pushed v (x ∷ xs) = x ∷ ins v xs
+-- of two nodes the one of the lesser place: the first, if both have the same
+abbrev pub lesser : {V : Type 0} → Node V → Node V → Node V
+lesser x y = cond (nat_lt y.place x.place) y x
 
--- no node behind the first is that of the place p
-abbrev pub AbsentBehind : {V : Type 0} → ℕ → List (Node V) → Type 0
-AbsentBehind p [] = Unit {0}
-AbsentBehind p (x ∷ xs) = Absent p xs
+-- the other of the two
+abbrev pub greater : {V : Type 0} → Node V → Node V → Node V
+greater x y = cond (nat_lt y.place x.place) x y
+
+-- no node holds a blank cell
+abbrev pub all_filled : {V : Type 0} → (V → Bool) → List (Node V) → Bool
+all_filled is_zero xs = list_all (λ x. not (is_blank is_zero x.cell)) xs

@@ -1,6 +1,7 @@
 -- What a sparse store means.
 use Rattle.std.specs.Prelude.{ℕ, List}
 use Rattle.values.specs.Ops.{Ops}
+use Rattle.values.specs.declared.value.Value as value
 use Rattle.stores.specs.Cells.{cell}
 use Rattle.stores.specs.Stores.{StoreModel}
 use Rattle.sparse.specs.Listing.{look}
@@ -13,8 +14,8 @@ abbrev pub noded : {V M : Type 0} → Ops V M → ℕ → List (Node V) → ℕ 
 noded k r xs s = record { reach = r; cells = look (cell k.zero 1) xs; spare = s }
 
 -- the meaning of a sparse store
-abbrev pub sparse_store : {V M : Type 0} → Ops V M → Sparse V → StoreModel V
-sparse_store k s = noded k s.nodes.reach (held s.nodes) s.spare
+abbrev pub sparse_store : {V M P : Type 0} {g : value.Ghosts V P} → Ops V M → Sparse V P g → StoreModel V
+sparse_store k s = noded k s.nodes.reach (held s.nodes) s.nodes.loose
 
 -- a store of n blank cells, of which m can be filled
 abbrev pub blank_store : {V M : Type 0} → Ops V M → ℕ → ℕ → StoreModel V

@@ -49,8 +49,3 @@ Apart a b (Some t) = a ≤ t.node.place → t.node.place < b → ⊥
 abbrev pub Above : {V : Type 0} → ℕ → Option (Tip V) → Type 0
 Above b None = ⊥
 Above b (Some t) = b ≤ t.node.place
-
--- there is a node, with a place before p
-abbrev pub Before : {V : Type 0} → ℕ → Option (Tip V) → Type 0
-Before p None = ⊥
-Before p (Some t) = t.node.place < p

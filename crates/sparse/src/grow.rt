@@ -1,44 +1,24 @@
 //! A node more in a tree by places, and another cell in one that is there.
-ghost use Rattle.std.specs.Prelude.{◌≡◌, ℕ, ◌+◌, ◌^◌, ◌<◌, ◌≤◌, length, ◌≢◌, slice_set};
+ghost use Rattle.std.specs.Prelude.{◌≡◌, ℕ, ◌<◌, length, ◌≢◌, slice_set};
 ghost use Rattle.std.specs.List.{slice_get};
-ghost use Rattle.sparse.specs.Listing.{Absent, AbsentBehind, ins, over, pushed};
-ghost use Rattle.sparse.specs.Trees.{Tree, listed, width, Above, Apart, Before};
+ghost use Rattle.sparse.specs.Listing.{Absent, ins, over, lesser, greater};
+ghost use Rattle.sparse.specs.Parts.{InPart, TreeOf, KeptApart};
+ghost use Rattle.sparse.specs.Trees.{listed, Above, Apart};
 
-use crate::node::{NO_NODE, Node, Tip};
+use crate::node::{Node, Tip};
+use crate::part::Part;
 use crate::seek::tip_at;
 use stores::cell::Cell;
 
-/// Leaves the lesser of the node at an index and the one that is given there, and gives the greater.
-fn settle<V: Copy>(
-    tips: &mut [Tip<V>],
-    at: u32,
-    level: u32,
-    low: u32,
-    end: u32,
-    node: Node<V>,
-) -> Node<V>
-    requires tree { Tree level tips.old low end at }
-    requires within { at < length tips.old }
-    requires low { low ≤ node.place }
-    requires end { node.place < end }
-    requires absent { Absent node.place (listed level tips.old at) }
-    ensures tree { Tree level tips.new low end at }
-    ensures list { pushed result (listed level tips.new at) ≡ ins node (listed level tips.old at) }
-    ensures absent { AbsentBehind result.place (listed level tips.new at) }
-    ensures before { Before result.place (slice_get tips.new at) }
-    ensures end { result.place < end }
-    ensures frame { (j : ℕ) → (j ≡ at → ⊥) → slice_get tips.new j ≡ slice_get tips.old j }
+/// Two nodes, the one of the lesser place first.
+fn in_order<V: Copy>(one: Node<V>, other: Node<V>) -> (Node<V>, Node<V>)
+    ensures first { result.0 ≡ lesser one other }
+    ensures second { result.1 ≡ greater one other }
 {
-    let here = tips[at as usize];
-    if node.place < here.node.place {
-        tips[at as usize] = Tip {
-            node,
-            left: here.left,
-            right: here.right,
-        };
-        here.node
+    if other.place < one.place {
+        (other, one)
     } else {
-        node
+        (one, other)
     }
 }
 
@@ -50,142 +30,68 @@ pub(crate) fn place_at<V: Copy>(tips: &mut [Tip<V>], at: u32, tip: Tip<V>)
     tips[at as usize] = tip;
 }
 
-/// Puts a node into the tree at an index that covers the places from `low` to before `end`; a free node takes what moves down last.
+/// Puts a node into the tree of a part at an index; a free node takes what moves down last. Gives the index of the tree.
 pub(crate) fn insert<V: Copy>(
     tips: &mut [Tip<V>],
     at: u32,
-    level: u32,
-    span: u32,
-    low: u32,
-    end: u32,
+    part: Part,
     node: Node<V>,
     free: u32,
 ) -> u32
-    requires tree { Tree level tips.old low end at }
-    requires span { span ≡ width level }
-    requires low { low ≤ node.place }
-    requires end { node.place < end }
-    requires fit { end ≤ low + width level }
-    requires short { length tips.old < 2 ^ 32 }
-    requires absent { Absent node.place (listed level tips.old at) }
-    requires free { Above end (slice_get tips.old free) }
-    ensures list { listed level tips.new result ≡ ins node (listed level tips.old at) }
-    ensures tree { Tree level tips.new low end result }
-    ensures frame { (j : ℕ) → (j ≢ free) → Apart low end (slice_get tips.old j) → slice_get tips.new j ≡ slice_get tips.old j }
+    requires tree { TreeOf part tips.old at }
+    requires place { InPart part node.place }
+    requires absent { Absent node.place (listed part.level tips.old at) }
+    requires free { Above part.end (slice_get tips.old free) }
+    ensures list { listed part.level tips.new result ≡ ins node (listed part.level tips.old at) }
+    ensures tree { TreeOf part tips.new result }
+    ensures frame { (j : ℕ) → (j ≢ free) → Apart part.low part.end (slice_get tips.old j) → slice_get tips.new j ≡ slice_get tips.old j }
 {
-    if at as usize >= tips.len() {
-        place_at(
-            tips,
-            free,
-            Tip {
-                node,
-                left: NO_NODE,
-                right: NO_NODE,
-            },
-        );
+    let Some(here) = tip_at(tips, at) else {
+        // No node is at this index, and so none below the new one.
+        let leaf = Tip {
+            node,
+            left: at,
+            right: at,
+        };
+        place_at(tips, free, leaf);
         return free;
-    }
-    let down = settle(tips, at, level, low, end, node);
-    let here = tips[at as usize];
-    let middle = end - (span / 2).min(end);
-    let next = here.node.place + 1;
-    if down.place < middle {
-        let left = insert(
-            tips,
-            here.left,
-            level - 1,
-            span / 2,
-            next,
-            middle,
-            down,
-            free,
-        );
-        place_at(
-            tips,
-            at,
-            Tip {
-                node: here.node,
-                left,
-                right: here.right,
-            },
-        );
-    } else {
-        let right = insert(
-            tips,
-            here.right,
-            level - 1,
-            span / 2,
-            next.max(middle),
-            end,
-            down,
-            free,
-        );
-        place_at(
-            tips,
-            at,
-            Tip {
-                node: here.node,
-                left: here.left,
-                right,
-            },
-        );
-    }
+    };
+    let (first, second) = in_order(here.node, node);
+    let here = Tip {
+        node: first,
+        ..here
+    };
+    // The lesser node is written before the other goes down: below it only what lies past it may change.
+    place_at(tips, at, here);
+    let side = part.side(second.place);
+    let half = part.half(side, first.place);
+    let child = insert(tips, here.child(side), half, second, free);
+    place_at(tips, at, here.with(side, child));
     at
 }
 
-/// Puts another cell into the node of the place, in the tree at an index that covers the places from `low` to before `end`.
+/// Puts another cell into the node of the place, in the tree of a part at an index.
 pub(crate) fn overwrite<V: Copy>(
     tips: &mut [Tip<V>],
     at: u32,
-    level: u32,
-    span: u32,
-    low: u32,
-    end: u32,
+    part: Part,
     place: u32,
     cell: Cell<V>,
 )
-    requires tree { Tree level tips.old low end at }
-    requires span { span ≡ width level }
-    ensures list { listed level tips.new at ≡ over place cell (listed level tips.old at) }
-    ensures tree { Tree level tips.new low end at }
-    ensures frame { (j : ℕ) → Apart low end (slice_get tips.old j) → slice_get tips.new j ≡ slice_get tips.old j }
+    requires { TreeOf part tips.old at }
+    ensures list { listed part.level tips.new at ≡ over place cell (listed part.level tips.old at) }
+    ensures tree { TreeOf part tips.new at }
+    ensures frame { KeptApart part tips.old tips.new }
 {
     let Some(here) = tip_at(tips, at) else {
         return;
     };
-    let next = here.node.place + 1;
-    let middle = end - (span / 2).min(end);
     if here.node.place == place {
-        place_at(
-            tips,
-            at,
-            Tip {
-                node: Node { place, cell },
-                left: here.left,
-                right: here.right,
-            },
-        );
-    } else if place < middle {
-        overwrite(
-            tips,
-            here.left,
-            level - 1,
-            span / 2,
-            next,
-            middle,
-            place,
-            cell,
-        );
+        let node = Node { place, cell };
+        place_at(tips, at, Tip { node, ..here });
     } else {
-        overwrite(
-            tips,
-            here.right,
-            level - 1,
-            span / 2,
-            next.max(middle),
-            end,
-            place,
-            cell,
-        );
+        let side = part.side(place);
+        let half = part.half(side, here.node.place);
+        overwrite(tips, here.child(side), half, place, cell);
     }
 }

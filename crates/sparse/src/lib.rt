@@ -5,6 +5,7 @@
 mod grow;
 pub mod node;
 mod nodes;
+mod part;
 mod prune;
 mod seek;
 pub mod sparse;

@@ -1,7 +1,10 @@
 //! What the sparse store is made of.
 ghost use Rattle.std.specs.Prelude.{◌≡◌};
+ghost use Rattle.stores.specs.Cells.{cell};
 ghost use Rattle.sparse.specs.Listing.{empty_tip};
+ghost use Rattle.sparse.specs.Parts.{child, with_child};
 
+use crate::part::Side;
 use stores::cell::Cell;
 use values::value::Value;
 
@@ -25,14 +28,42 @@ impl<V: Value> Tip<V> {
     pub fn empty() -> Self
         ensures { result ≡ empty_tip V.Value.ops.zero }
     {
-        let cell = Cell {
-            value: V::zero(),
-            level: 1,
+        let node = Node {
+            place: 0,
+            cell: Cell::blank(),
         };
         Tip {
-            node: Node { place: 0, cell },
+            node,
             left: 0,
             right: 0,
+        }
+    }
+}
+
+impl<V: Copy> Tip<V> {
+    /// The index of its child at a side, or one of no node.
+    pub(crate) fn child(self, side: Side) -> u32
+        ensures { result ≡ child side self }
+    {
+        match side {
+            Side::Left => self.left,
+            Side::Right => self.right,
+        }
+    }
+
+    /// The same node with another child at a side.
+    pub(crate) fn with(self, side: Side, child: u32) -> Self
+        ensures { result ≡ with_child side child self }
+    {
+        match side {
+            Side::Left => Tip {
+                left: child,
+                ..self
+            },
+            Side::Right => Tip {
+                right: child,
+                ..self
+            },
         }
     }
 }
@@ -44,5 +75,6 @@ pub struct Cut {
     pub(crate) free: u32,
 }
 
-/// The index of no node: it is past every row.
-pub(crate) const NO_NODE: u32 = 4_294_967_295;
+/// An index of no node, past every row.
+// Kept: a number for none, since an Option<u32>, and here also an Option<NonZeroU32>, takes twice the room in memory that is handed over.
+pub(crate) const NO_NODE: u32 = u32::MAX;

@@ -9,6 +9,7 @@ pub(crate) mod ops;
 use crate::node::Tip;
 
 /// The nodes that a store was handed, of which so many are free.
+// Kept: indices in one row, since a store allocates nothing: it is handed one node for each filled cell.
 #[derive(Drop)]
 pub struct Nodes<V> {
     tips: Vec<Tip<V>>,

@@ -1,174 +1,78 @@
 //! A node less in a tree by places.
-ghost use Rattle.std.specs.Prelude.{◌≡◌, ℕ, ◌^◌, ◌<◌, length, Some};
+ghost use Rattle.std.specs.Prelude.{◌≡◌, ◌≢◌, Some, None};
 ghost use Rattle.std.specs.List.{slice_get};
 ghost use Rattle.sparse.specs.Listing.{behind, del, found};
-ghost use Rattle.sparse.specs.Trees.{Tree, listed, width, Apart, Inside};
+ghost use Rattle.sparse.specs.Parts.{TreeOf, KeptApart, IsLower};
+ghost use Rattle.sparse.specs.Trees.{listed, Inside};
 
 use crate::grow::place_at;
-use crate::node::{Cut, NO_NODE, Tip};
+use crate::node::{Cut, Tip};
+use crate::part::{Part, Side};
 use crate::seek::tip_at;
-use stores::cell::Cell;
 
-/// Takes the least node out of the tree at an index; the node that comes free is left as `spent`.
-fn unroot<V: Copy>(
-    tips: &mut [Tip<V>],
-    at: u32,
-    here: Tip<V>,
-    level: u32,
-    span: u32,
-    low: u32,
-    end: u32,
-    spent: Tip<V>,
-) -> Cut
-    requires tree { Tree level tips.old low end at }
-    requires span { span ≡ width level }
-    requires here { slice_get tips.old at ≡ Some here }
-    requires short { length tips.old < 2 ^ 32 }
-    ensures list { listed level tips.new result.root ≡ behind (listed level tips.old at) }
-    ensures tree { Tree level tips.new low end result.root }
-    ensures spent { slice_get tips.new result.free ≡ Some spent }
-    ensures inside { Inside low end (slice_get tips.old result.free) }
-    ensures frame { (j : ℕ) → Apart low end (slice_get tips.old j) → slice_get tips.new j ≡ slice_get tips.old j }
+/// The side of the least node below another, if there is one: the left, unless no node is there.
+fn lower<V: Copy>(tips: &[Tip<V>], here: Tip<V>) -> Side
+    ensures { IsLower result (slice_get tips.now here.left) }
 {
-    let middle = end - (span / 2).min(end);
-    if let Some(first) = tip_at(tips, here.left) {
-        let next = here.node.place + 1;
-        let cut = unroot(
-            tips,
-            here.left,
-            first,
-            level - 1,
-            span / 2,
-            next,
-            middle,
-            spent,
-        );
-        place_at(
-            tips,
-            at,
-            Tip {
-                node: first.node,
-                left: cut.root,
-                right: here.right,
-            },
-        );
-        return Cut {
-            root: at,
-            free: cut.free,
-        };
-    }
-    if let Some(second) = tip_at(tips, here.right) {
-        let next = here.node.place + 1;
-        let cut = unroot(
-            tips,
-            here.right,
-            second,
-            level - 1,
-            span / 2,
-            next.max(middle),
-            end,
-            spent,
-        );
-        place_at(
-            tips,
-            at,
-            Tip {
-                node: second.node,
-                left: here.left,
-                right: cut.root,
-            },
-        );
-        return Cut {
-            root: at,
-            free: cut.free,
-        };
-    }
-    place_at(tips, at, spent);
-    Cut {
-        root: NO_NODE,
-        free: at,
+    match tip_at(tips, here.left) {
+        Some(_) => Side::Left,
+        None => Side::Right,
     }
 }
 
-/// Takes the node of the place, which holds the cell, out of the tree at an index; the node that comes free is left as `spent`.
+/// Takes the least node, which is here, out of the tree of a part at an index; the node that comes free is left as `spent`.
+fn unroot<V: Copy>(tips: &mut [Tip<V>], at: u32, here: Tip<V>, part: Part, spent: Tip<V>) -> Cut
+    requires tree { TreeOf part tips.old at }
+    requires here { slice_get tips.old at ≡ Some here }
+    ensures list { listed part.level tips.new result.root ≡ behind (listed part.level tips.old at) }
+    ensures tree { TreeOf part tips.new result.root }
+    ensures spent { slice_get tips.new result.free ≡ Some spent }
+    ensures inside { Inside part.low part.end (slice_get tips.old result.free) }
+    ensures frame { KeptApart part tips.old tips.new }
+{
+    let side = lower(tips, here);
+    let child = here.child(side);
+    let Some(next) = tip_at(tips, child) else {
+        place_at(tips, at, spent);
+        // No node is below, so the index of none is what is left.
+        return Cut {
+            root: child,
+            free: at,
+        };
+    };
+    let half = part.half(side, here.node.place);
+    let cut = unroot(tips, child, next, half, spent);
+    let risen = Tip {
+        node: next.node,
+        ..here
+    };
+    place_at(tips, at, risen.with(side, cut.root));
+    Cut { root: at, ..cut }
+}
+
+/// Takes the node of the place out of the tree of a part at an index; the node that comes free is left as `spent`.
 pub(crate) fn remove<V: Copy>(
     tips: &mut [Tip<V>],
     at: u32,
-    level: u32,
-    span: u32,
-    low: u32,
-    end: u32,
+    part: Part,
     place: u32,
-    cell: Cell<V>,
     spent: Tip<V>,
 ) -> Cut
-    requires tree { Tree level tips.old low end at }
-    requires span { span ≡ width level }
-    requires held { found place (listed level tips.old at) ≡ Some cell }
-    requires short { length tips.old < 2 ^ 32 }
-    ensures list { listed level tips.new result.root ≡ del place (listed level tips.old at) }
-    ensures tree { Tree level tips.new low end result.root }
+    requires tree { TreeOf part tips.old at }
+    requires held { found place (listed part.level tips.old at) ≢ None }
+    ensures list { listed part.level tips.new result.root ≡ del place (listed part.level tips.old at) }
+    ensures tree { TreeOf part tips.new result.root }
     ensures spent { slice_get tips.new result.free ≡ Some spent }
-    ensures inside { Inside low end (slice_get tips.old result.free) }
-    ensures frame { (j : ℕ) → Apart low end (slice_get tips.old j) → slice_get tips.new j ≡ slice_get tips.old j }
+    ensures inside { Inside part.low part.end (slice_get tips.old result.free) }
+    ensures frame { KeptApart part tips.old tips.new }
 {
-    let Some(here) = tip_at(tips, at) else {
-        return Cut { root: at, free: at };
-    };
+    let here = tips[at as usize];
     if here.node.place == place {
-        return unroot(tips, at, here, level, span, low, end, spent);
+        return unroot(tips, at, here, part, spent);
     }
-    let middle = end - (span / 2).min(end);
-    let next = here.node.place + 1;
-    if place < middle {
-        let cut = remove(
-            tips,
-            here.left,
-            level - 1,
-            span / 2,
-            next,
-            middle,
-            place,
-            cell,
-            spent,
-        );
-        place_at(
-            tips,
-            at,
-            Tip {
-                node: here.node,
-                left: cut.root,
-                right: here.right,
-            },
-        );
-        Cut {
-            root: at,
-            free: cut.free,
-        }
-    } else {
-        let cut = remove(
-            tips,
-            here.right,
-            level - 1,
-            span / 2,
-            next.max(middle),
-            end,
-            place,
-            cell,
-            spent,
-        );
-        place_at(
-            tips,
-            at,
-            Tip {
-                node: here.node,
-                left: here.left,
-                right: cut.root,
-            },
-        );
-        Cut {
-            root: at,
-            free: cut.free,
-        }
-    }
+    let side = part.side(place);
+    let half = part.half(side, here.node.place);
+    let cut = remove(tips, here.child(side), half, place, spent);
+    place_at(tips, at, here.with(side, cut.root));
+    Cut { root: at, ..cut }
 }

@@ -1,6 +1,5 @@
 //! What is done with a store's nodes.
 ghost use Rattle.std.specs.Prelude.{◌≡◌, ◌+◌, ◌<◌, ◌≤◌, min, true, [], length, Some, vec_len};
-ghost use Rattle.std.specs.List.{slice_get};
 ghost use Rattle.tokens.specs.Limits.{top_reach};
 ghost use Rattle.sparse.specs.Listing.{ins, del, over, found, first_from, Absent};
 ghost use Rattle.sparse.specs.Chain.{top_nodes, chained};
@@ -9,17 +8,13 @@ ghost use Rattle.sparse.specs.Held.{held};
 use crate::grow::{insert, overwrite};
 use crate::node::{NO_NODE, Node, Tip};
 use crate::nodes::Nodes;
+use crate::part::{PLACES, Part};
 use crate::prune::remove;
-use crate::seek::{find, first_from, tip_at};
+use crate::seek::{find, first_from};
 use stores::cell::Cell;
-use tokens::limits::MAX_REACH;
 
 /// The most nodes that a store uses.
 const MAX_NODES: usize = 65_535;
-/// How many levels a tree of all places has.
-const LEVELS: u32 = 18;
-/// How many places those are.
-const PLACES: u32 = MAX_REACH as u32;
 
 /// A free node of the rank, with the next one behind it; what it held is left in it.
 fn freed<V: Copy>(cell: Cell<V>, rank: u32, next: u32) -> Tip<V>
@@ -44,9 +39,8 @@ fn chain_up<V: Copy>(tips: &mut [Tip<V>]) -> u32
     ensures { chained (length tips.old) tips.new result ≡ true }
 {
     let mut head = NO_NODE;
-    for at in 0..tips.len() {
-        let here = tips[at];
-        tips[at] = freed(here.node.cell, at as u32, head);
+    for (at, tip) in tips.iter_mut().enumerate() {
+        *tip = freed(tip.node.cell, at as u32, head);
         head = at as u32;
     }
     head
@@ -75,22 +69,17 @@ impl<V: Copy> Nodes<V> {
     pub(crate) fn get(&self, place: u32) -> Option<Cell<V>>
         ensures { result ≡ found place (held self.now) }
     {
-        find(&self.tips, self.root, LEVELS, PLACES, self.reach, place)
+        find(&self.tips, self.root, Part::whole(self.reach), place)
     }
 
     /// The first node at or past the place.
     pub(crate) fn next(&self, place: u32) -> Option<Node<V>>
         ensures { result ≡ first_from place (held self.now) }
     {
-        first_from(&self.tips, self.root, LEVELS, PLACES, self.reach, place)
+        first_from(&self.tips, self.root, Part::whole(self.reach), place)
     }
 
-    /// The first free node.
-    fn top(&self) -> Option<Tip<V>>
-        ensures { result ≡ slice_get self.now.tips.items self.now.free }
-    {
-        tip_at(&self.tips, self.free)
-    }
+    // Kept: that the reach stays is a clause of each of these three. A model of the nodes would say it in no fewer words.
 
     /// Frees the node of the place, which holds the cell.
     pub(crate) fn take(&mut self, place: u32, cell: Cell<V>)
@@ -99,22 +88,12 @@ impl<V: Copy> Nodes<V> {
         ensures loose { self.new.loose ≡ self.old.loose + 1 }
         ensures reach { self.new.reach ≡ self.old.reach }
     {
-        let (root, free, loose, reach) = (self.root, self.free, self.loose, self.reach);
-        let spent = freed(cell, loose, free);
-        let cut = remove(
-            &mut self.tips,
-            root,
-            LEVELS,
-            PLACES,
-            0,
-            reach,
-            place,
-            cell,
-            spent,
-        );
+        let spent = freed(cell, self.loose, self.free);
+        let part = Part::whole(self.reach);
+        let cut = remove(&mut self.tips, self.root, part, place, spent);
         self.root = cut.root;
         self.free = cut.free;
-        self.loose = loose + 1;
+        self.loose += 1;
     }
 
     /// Puts a cell at a place that has no node.
@@ -126,14 +105,11 @@ impl<V: Copy> Nodes<V> {
         ensures loose { self.new.loose + 1 ≡ self.old.loose }
         ensures reach { self.new.reach ≡ self.old.reach }
     {
-        let (root, free, loose, reach) = (self.root, self.free, self.loose, self.reach);
-        let Some(top) = self.top() else {
-            return;
-        };
-        let new = insert(&mut self.tips, root, LEVELS, PLACES, 0, reach, node, free);
-        self.root = new;
-        self.free = top.left;
-        self.loose = loose - 1;
+        let part = Part::whole(self.reach);
+        let next = self.tips[self.free as usize].left;
+        self.root = insert(&mut self.tips, self.root, part, node, self.free);
+        self.free = next;
+        self.loose -= 1;
     }
 
     /// Puts another cell into the node of the place.
@@ -142,7 +118,7 @@ impl<V: Copy> Nodes<V> {
         ensures loose { self.new.loose ≡ self.old.loose }
         ensures reach { self.new.reach ≡ self.old.reach }
     {
-        let (root, reach) = (self.root, self.reach);
-        overwrite(&mut self.tips, root, LEVELS, PLACES, 0, reach, place, cell);
+        let part = Part::whole(self.reach);
+        overwrite(&mut self.tips, self.root, part, place, cell);
     }
 }

@@ -8,7 +8,7 @@ ghost use Rattle.sparse.specs.Sparses.{sparse_store};
 
 use crate::node::Node;
 use crate::sparse::Sparse;
-use stores::cell::{Cell, is_blank};
+use stores::cell::Cell;
 use values::value::Value;
 
 impl<V: Value> Sparse<V> {
@@ -16,13 +16,8 @@ impl<V: Value> Sparse<V> {
     pub(crate) fn read(&self, place: u32) -> Cell<V>
         ensures { result ≡ (sparse_store V.Value.ops self.now).cells place }
     {
-        if let Some(cell) = self.nodes.get(place) {
-            return cell;
-        }
-        Cell {
-            value: V::zero(),
-            level: 1,
-        }
+        // Kept: made even where it is not needed. `unwrap_or_else(Cell::blank)`, whose result is of the type parameter, gets no generated proof.
+        self.nodes.get(place).unwrap_or(Cell::blank())
     }
 
     /// Puts a cell at a place that has no node.
@@ -32,30 +27,20 @@ impl<V: Value> Sparse<V> {
         requires none { found place (held self.old.nodes) ≡ None }
         ensures { sparse_store V.Value.ops self.new ≡ written V.Value.ops.is_zero (sparse_store V.Value.ops self.old) place cell }
     {
-        if !is_blank(&cell.value, cell.level) {
-            self.spare -= 1;
+        if !cell.is_blank() {
             self.nodes.put(Node { place, cell });
         }
     }
 
     /// Puts another cell at a place that has a node, which holds the old one. A blank cell gives the node back.
     pub(crate) fn refill(&mut self, place: u32, old: Cell<V>, cell: Cell<V>)
-        requires near { place < self.old.nodes.reach }
-        requires room { full V.Value.ops.is_zero (sparse_store V.Value.ops self.old) place (is_blank V.Value.ops.is_zero cell) ≡ false }
-        requires old { found place (held self.old.nodes) ≡ Some old }
+        requires { found place (held self.old.nodes) ≡ Some old }
         ensures { sparse_store V.Value.ops self.new ≡ written V.Value.ops.is_zero (sparse_store V.Value.ops self.old) place cell }
     {
-        let was_blank = is_blank(&old.value, old.level);
-        if is_blank(&cell.value, cell.level) {
+        if cell.is_blank() {
             self.nodes.take(place, old);
-            if !was_blank {
-                self.spare += 1;
-            }
         } else {
             self.nodes.set(place, cell);
-            if was_blank {
-                self.spare -= 1;
-            }
         }
     }
 }

@@ -7,7 +7,7 @@ ghost use Rattle.sparse.specs.Sparses.{sparse_store, blank_store};
 use crate::node::Tip;
 use crate::nodes::Nodes;
 use crate::sparse::Sparse;
-use stores::cell::{Cell, is_blank};
+use stores::cell::Cell;
 use stores::fault::StoreFault;
 use stores::store::Store;
 use values::value::Value;
@@ -18,8 +18,7 @@ impl<V: Value> Sparse<V> {
         ensures { sparse_store V.Value.ops result ≡ blank_store V.Value.ops (min reach top_reach) (min (vec_len nodes) top_nodes) }
     {
         let nodes = Nodes::new(nodes, reach);
-        let spare = nodes.loose;
-        Sparse { nodes, spare }
+        Sparse { nodes }
     }
 }
 
@@ -31,7 +30,7 @@ impl<V: Value> Store<V> for Sparse<V> {
     }
 
     fn spare(&self) -> u32 {
-        self.spare
+        self.nodes.loose
     }
 
     fn cell(&self, place: u32) -> Option<Cell<V>> {
@@ -43,18 +42,16 @@ impl<V: Value> Store<V> for Sparse<V> {
     }
 
     fn may_write(&self, place: u32, blank: bool) -> Result<(), StoreFault> {
-        let Some(old) = self.cell(place) else {
-            return Err(StoreFault::Beyond { place });
-        };
-        if is_blank(&old.value, old.level) && !blank && self.spare == 0 {
+        let old = self.cell(place).ok_or(StoreFault::Beyond { place })?;
+        if old.is_blank() && !blank && self.nodes.loose == 0 {
             return Err(StoreFault::Full { place });
         }
         Ok(())
     }
 
     fn write(&mut self, place: u32, value: V, level: u8) -> Result<(), StoreFault> {
-        self.may_write(place, is_blank(&value, level))?;
         let cell = Cell { value, level };
+        self.may_write(place, cell.is_blank())?;
         match self.nodes.get(place) {
             Some(old) => self.refill(place, old, cell),
             None => self.fill(place, cell),
@@ -63,13 +60,6 @@ impl<V: Value> Store<V> for Sparse<V> {
     }
 
     fn next_filled(&self, from: u32) -> Option<u32> {
-        let mut at = from;
-        while let Some(node) = self.nodes.next(at) {
-            if !is_blank(&node.cell.value, node.cell.level) {
-                return Some(node.place);
-            }
-            at = node.place + 1;
-        }
-        None
+        self.nodes.next(from).map(|node| node.place)
     }
 }

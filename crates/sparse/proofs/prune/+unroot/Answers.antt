@@ -1,159 +1,36 @@
-use Rattle.std.proofs.Common.{◌≡◌, ℕ, ◌+◌, ◌-◌, ◌<◌, max, List, length, set, sym, subst, arith}
-use Rattle.std.specs.List.{slice_get}
+use Rattle.std.proofs.Common.{sym, arith}
+use Rattle.std.proofs.lemmas.Option.{slice_get_within}
 use Rattle.sparse.specs.Listing.{behind}
-use Rattle.sparse.specs.Trees.{Tree, listed, width, Apart, Inside}
-use Rattle.sparse.specs.declared.node.Tip.{Tip}
-use Rattle.sparse.proofs.Grown.{tip}
-use Rattle.sparse.proofs.Finds.{downs}
-use Rattle.sparse.proofs.Cuts.{lone, Left, cut_left, cut_right}
+use Rattle.sparse.specs.Trees.{listed}
+use Rattle.sparse.proofs.Halves.{stands}
+use Rattle.sparse.proofs.Cuts.{Pruned, alone_in, risen_in}
 use Rattle.sparse.proofs.prune.+unroot.Goals as goal
 
-pub overflow_add-next : goal.overflow_add-next
-overflow_add-next g t c =
+pub returns-in_default : goal.returns-in_default
+returns-in_default g t c =
+    let q = c.args.part in
     let ts = c.args.tips.now in
-    let at = c.args.at in
-    let a = c.args.low in
-    let b = c.args.end in
-    let x = c.args.here in
-    let now = c.requires.here in
-    let d = downs c.args.level c.args.span ts at a b x now c.requires.tree c.requires.span in
-    omega arith
+    let d = alone_in c.lower-side.result q.level ts c.args.at q.low q.end c.child-child.result c.args.here c.args.spent c.requires.here c.requires.tree c.child-child.ensures c.lower-side.ensures (sym c.in_default.ensures) in
+    rw c.place_at.ensures record { list = d.list; tree = d.tree; spent = d.spent; inside = d.inside; frame = d.frame }
 
-pub overflow_add-next-in-Some-tip_at : goal.overflow_add-next-in-Some-tip_at
-overflow_add-next-in-Some-tip_at g t c =
-    let ts = c.args.tips.now in
-    let at = c.args.at in
-    let a = c.args.low in
-    let b = c.args.end in
-    let x = c.args.here in
-    let now = c.requires.here in
-    let d = downs c.args.level c.args.span ts at a b x now c.requires.tree c.requires.span in
-    omega arith
-
-pub unroot-cut-requires : goal.unroot-cut-requires
-unroot-cut-requires g t c κs within =
-    let ts = c.args.tips.now in
-    let at = c.args.at in
-    let a = c.args.low in
-    let b = c.args.end in
-    let m = c.args.level - 1 in
-    let x = c.args.here in
-    let now = c.requires.here in
-    let d = downs c.args.level c.args.span ts at a b x now c.requires.tree c.requires.span in
-    let emid : b - c.min.result ≡ b - width m = omega arith in
-    let less : c.args.level - 1 < t = omega arith in
-    (less, (within, (subst (λ (q : ℕ). Tree m ts (x.node.place + 1) q x.left) (sym emid) d.left, (d.half, (sym c.in-Some.ensures, c.requires.short)))))
-
-pub unroot-cut-requires-in-Some-tip_at : goal.unroot-cut-requires-in-Some-tip_at
-unroot-cut-requires-in-Some-tip_at g t c κs within =
-    let ts = c.args.tips.now in
-    let at = c.args.at in
-    let a = c.args.low in
-    let b = c.args.end in
-    let m = c.args.level - 1 in
-    let x = c.args.here in
-    let now = c.requires.here in
-    let d = downs c.args.level c.args.span ts at a b x now c.requires.tree c.requires.span in
-    let emid : b - c.min.result ≡ b - width m = omega arith in
-    let emax : c.max.result ≡ max (x.node.place + 1) (b - width m) = omega arith in
-    let less : c.args.level - 1 < t = omega arith in
-    (less, (within, (subst (λ (q : ℕ). Tree m ts q b x.right) (sym emax) d.right, (d.half, (sym c.in-Some-tip_at.ensures, c.requires.short)))))
-
-pub place_at-requires : goal.place_at-requires
-place_at-requires g t c =
-    let ts = c.args.tips.now in
-    let at = c.args.at in
-    let a = c.args.low in
-    let b = c.args.end in
-    let x = c.args.here in
-    let now = c.requires.here in
-    let d = downs c.args.level c.args.span ts at a b x now c.requires.tree c.requires.span in
-    omega arith
-
-pub place_at-requires-in-Some-tip_at : goal.place_at-requires-in-Some-tip_at
-place_at-requires-in-Some-tip_at g t c =
-    let ts = c.args.tips.now in
-    let at = c.args.at in
-    let a = c.args.low in
-    let b = c.args.end in
-    let x = c.args.here in
-    let now = c.requires.here in
-    let d = downs c.args.level c.args.span ts at a b x now c.requires.tree c.requires.span in
-    omega arith
+pub half-half-requires : goal.half-half-requires
+half-half-requires g t c =
+    stands c.args.part c.args.tips.now c.args.at c.args.here c.requires.here c.requires.tree
 
 pub place_at-requires-2 : goal.place_at-requires-2
-place_at-requires-2 g t c =
-    let ts = c.args.tips.now in
-    let at = c.args.at in
-    let a = c.args.low in
-    let b = c.args.end in
-    let x = c.args.here in
-    let now = c.requires.here in
-    let d = downs c.args.level c.args.span ts at a b x now c.requires.tree c.requires.span in
-    d.inside
-
-pub returns-in-Some : goal.returns-in-Some
-returns-in-Some g t c =
-    let ts = c.args.tips.now in
-    let at = c.args.at in
-    let a = c.args.low in
-    let b = c.args.end in
-    let m = c.args.level - 1 in
-    let x = c.args.here in
-    let sp = c.args.spent in
-    let now = c.requires.here in
-    let d = downs c.args.level c.args.span ts at a b x now c.requires.tree c.requires.span in
-    let emid : b - c.min.result ≡ b - width m = omega arith in
-    let us = c.unroot-cut.new.tips in
-    let r = c.unroot-cut.result.root in
-    let fr = c.unroot-cut.result.free in
-    let y = c.unroot-cut.ensures in
-    let long : at < length us = omega arith in
-    let f = c.in-Some.first in
-    let done = cut_left m ts us at a b r fr f x sp now d.tree long y.spent (sym c.in-Some.ensures) y.list (subst (λ (q : ℕ). Tree m us (x.node.place + 1) q r) emid y.tree)
-    (subst (λ (q : ℕ). Inside (x.node.place + 1) q (slice_get ts fr)) emid y.inside) (λ j ap. y.frame j (subst (λ (q : ℕ). Apart (x.node.place + 1) q (slice_get ts j)) (sym emid) ap)) in
-    let back = subst (λ (n : ℕ). Left n ts (set us at (tip f.node r x.right)) at fr a b at sp (behind (listed n ts at))) (sym d.up) (done) in
-    let last = subst (λ (ys : List (Tip _)). Left c.args.level ts ys at fr a b at sp (behind (listed c.args.level ts at))) (sym c.place_at.ensures) back in
-    record { list = last.0; tree = last.1; spent = last.2; inside = last.3; frame = last.4 }
-
-pub returns-in-Some-tip_at : goal.returns-in-Some-tip_at
-returns-in-Some-tip_at g t c =
-    let ts = c.args.tips.now in
-    let at = c.args.at in
-    let a = c.args.low in
-    let b = c.args.end in
-    let m = c.args.level - 1 in
-    let x = c.args.here in
-    let sp = c.args.spent in
-    let now = c.requires.here in
-    let d = downs c.args.level c.args.span ts at a b x now c.requires.tree c.requires.span in
-    let emid : b - c.min.result ≡ b - width m = omega arith in
-    let emax : c.max.result ≡ max (x.node.place + 1) (b - width m) = omega arith in
-    let us = c.unroot-cut-in-Some-tip_at.new.tips in
-    let r = c.unroot-cut-in-Some-tip_at.result.root in
-    let fr = c.unroot-cut-in-Some-tip_at.result.free in
-    let y = c.unroot-cut-in-Some-tip_at.ensures in
-    let long : at < length us = omega arith in
-    let f = c.in-Some-tip_at.second in
-    let done = cut_right m ts us at a b r fr f x sp now d.tree long y.spent (sym c.in_default.ensures) (sym c.in-Some-tip_at.ensures) y.list (subst (λ (q : ℕ). Tree m us q b r) emax y.tree)
-    (subst (λ (q : ℕ). Inside q b (slice_get ts fr)) emax y.inside) (λ j ap. y.frame j (subst (λ (q : ℕ). Apart q b (slice_get ts j)) (sym emax) ap)) in
-    let back = subst (λ (n : ℕ). Left n ts (set us at (tip f.node x.left r)) at fr a b at sp (behind (listed n ts at))) (sym d.up) (done) in
-    let last = subst (λ (ys : List (Tip _)). Left c.args.level ts ys at fr a b at sp (behind (listed c.args.level ts at))) (sym c.place_at-in-Some-tip_at.ensures) back in
-    record { list = last.0; tree = last.1; spent = last.2; inside = last.3; frame = last.4 }
+place_at-requires-2 g t c = let l = slice_get_within c.args.tips.now c.args.at c.args.here c.requires.here in omega arith
 
 pub returns : goal.returns
 returns g t c =
+    let q = c.args.part in
+    let h = c.half-half.result in
     let ts = c.args.tips.now in
-    let at = c.args.at in
-    let a = c.args.low in
-    let b = c.args.end in
-    let m = c.args.level - 1 in
-    let x = c.args.here in
-    let sp = c.args.spent in
-    let now = c.requires.here in
-    let d = downs c.args.level c.args.span ts at a b x now c.requires.tree c.requires.span in
-    let emid : b - c.min.result ≡ b - width m = omega arith in
-    let done = lone m ts at a b 4294967295 x sp now d.tree d.inside (sym c.in_default.ensures) (sym c.in_default-tip_at.ensures) (omega arith) in
-    let back = subst (λ (n : ℕ). Left n ts (set ts at sp) 4294967295 at a b at sp (behind (listed n ts at))) (sym d.up) (done) in
-    let last = subst (λ (ys : List (Tip _)). Left c.args.level ts ys 4294967295 at a b at sp (behind (listed c.args.level ts at))) (sym c.place_at-2.ensures) back in
-    record { list = last.0; tree = last.1; spent = last.2; inside = last.3; frame = last.4 }
+    let us = c.unroot-cut.new.tips in
+    let cut = c.unroot-cut.result in
+    let y = c.unroot-cut.ensures in
+    let l = slice_get_within ts c.args.at c.args.here c.requires.here in
+    let below : Pruned h.level ts us cut.root cut.free h.low h.end c.args.spent (behind (listed h.level ts c.child-child.result)) =
+    record { list = y.list; tree = y.tree; spent = y.spent; inside = y.inside; frame = y.frame } in
+    let d = risen_in c.lower-side.result q h ts us c.args.at c.child-child.result cut.root cut.free c.args.here c.in-Some.next c.args.spent c.half-half.ensures c.requires.here c.requires.tree (omega arith)
+    c.child-child.ensures c.lower-side.ensures (sym c.in-Some.ensures) below in
+    rw (c.place_at-2.ensures, c.with.ensures) record { list = d.list; tree = d.tree; spent = d.spent; inside = d.inside; frame = d.frame }

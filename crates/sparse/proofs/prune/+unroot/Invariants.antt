@@ -1,4 +1,4 @@
 use Rattle.sparse.proofs.prune.+unroot.Given as goal
 
 abbrev pub decreases-unroot : goal.decreases-unroot
-decreases-unroot g l = l.level
+decreases-unroot g l = l.part.level

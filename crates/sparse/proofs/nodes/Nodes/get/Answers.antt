@@ -1,19 +1,15 @@
-use Rattle.std.proofs.Common.{List, sym, refl, ap, ◌∙◌, subst}
-use Rattle.sparse.specs.Trees.{Tree, listed}
+use Rattle.std.proofs.Common.{◌∙◌}
+use Rattle.sparse.specs.Trees.{listed}
 use Rattle.sparse.specs.Listing.{found}
-use Rattle.sparse.specs.declared.node.Tip.{Tip}
 use Rattle.sparse.specs.Held.{held}
-use Rattle.sparse.proofs.Chains.{tree_from}
+use Rattle.sparse.proofs.Chains.{nodes_tree}
 use Rattle.sparse.proofs.nodes.Nodes.get.Goals as goal
 
 pub find-requires : goal.find-requires
-unfolding held
-find-requires g c =
-    let s = c.args.self.now in
-    record { tree = subst (λ (xs : List (Tip _)). Tree 18 xs 0 s.reach s.root) (sym c.deref.ensures.value) (tree_from 18 s.tips.items 0 s.reach s.root s.tree); span = refl }
+find-requires g c = rw c.deref.ensures.value (nodes_tree c.args.self.now c.whole.result c.whole.ensures)
 
 pub returns : goal.returns
 unfolding held
 returns g c =
     let s = c.args.self.now in
-    c.find.ensures ∙ ap (λ (xs : List (Tip _)). found c.args.place (listed 18 xs s.root)) c.deref.ensures.value
+    c.find.ensures ∙ (λ i. found c.args.place (listed (c.whole.ensures.level i) (c.deref.ensures.value i) s.root))

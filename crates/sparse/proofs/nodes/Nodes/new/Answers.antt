@@ -24,15 +24,10 @@ invariant_of-result g c =
       tree = subst (λ (xs : List (Tip _)). treed 18 xs 0 c.min.result 4294967295 ≡ true) (sym E) b.1;
     }
 
-pub returns : goal.returns
+pub returns-clause-held : goal.returns-clause-held
 unfolding held
-returns g c =
+returns-clause-held g c =
     let ws = c.chain_up-free.new.tips in
     let E = with_items_is c.truncate.new.self ws (omega arith) in
     let b = bare 18 ws c.min.result 4294967295 (omega arith) in
-    let n = c.truncate.ensures.len in
-    record {
-      reach = omega arith;
-      loose = omega arith;
-      held = ap (λ (xs : List (Tip _)). listed 18 xs 4294967295) E ∙ b.0;
-    }
+    ap (λ (xs : List (Tip _)). listed 18 xs 4294967295) E ∙ b.0

@@ -1,9 +1,6 @@
-use Rattle.std.proofs.Common.{sym, refl, ap, add-one, arith}
+use Rattle.std.proofs.Common.{sym, ap, add-one, arith}
 use Rattle.sparse.proofs.Chains.{prev, freed_all, freed_more}
 use Rattle.sparse.proofs.nodes.ops.chain_up.Goals as goal
-
-pub loop-at-init : goal.loop-at-init
-loop-at-init g c = (refl, (λ j l. absurd (omega arith)))
 
 pub loop-at-preserved : goal.loop-at-preserved
 loop-at-preserved g c =

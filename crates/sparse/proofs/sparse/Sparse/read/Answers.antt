@@ -1,14 +1,10 @@
 use Rattle.std.proofs.Common.{sym, ◌∙◌}
+use Rattle.std.specs.Option.{unwrap_or}
 use Rattle.stores.specs.Cells.{cell}
 use Rattle.sparse.specs.Held.{held}
-use Rattle.sparse.proofs.Looks.{look_some, look_none}
+use Rattle.sparse.proofs.Looks.{look_found}
 use Rattle.sparse.proofs.sparse.Sparse.read.Goals as goal
-
-pub returns-in-Some : goal.returns-in-Some
-returns-in-Some g c =
-    sym (look_some (cell g.V.Value.ops.zero 1) c.args.place (held c.args.self.now.nodes) c.in-Some.cell (sym c.in-Some.ensures))
 
 pub returns : goal.returns
 returns g c =
-    (λ i. cell (c.zero.ensures i) 1)
-    ∙ sym (look_none (cell g.V.Value.ops.zero 1) c.args.place (held c.args.self.now.nodes) (sym c.in_default.ensures))
+    c.unwrap_or.ensures ∙ (λ i. unwrap_or (c.get.ensures i) (c.blank.ensures i)) ∙ sym (look_found (cell g.V.Value.ops.zero 1) c.args.place (held c.args.self.now.nodes))

@@ -1,35 +1,31 @@
-use Rattle.std.proofs.Common.{true, false, refl}
+use Rattle.std.proofs.Common.{ap, ◌∙◌}
 use Rattle.sparse.specs.Held.{held}
+use Rattle.sparse.specs.Listing.{all_filled}
+use Rattle.sparse.proofs.Fills.{del_filled, over_filled}
 use Rattle.sparse.proofs.Scans.{held_asc}
-use Rattle.sparse.proofs.Writes.{some_left, refilled, blanked}
+use Rattle.sparse.proofs.Writes.{refilled, blanked}
 use Rattle.sparse.proofs.sparse.Sparse.refill.Goals as goal
 
-pub overflow_sub-self : goal.overflow_sub-self
-overflow_sub-self g c =
+pub invariant_of-self : goal.invariant_of-self
+invariant_of-self g c =
     let s = c.args.self.now in
-    some_left g.V.Value.ops g.met.V.Value.lawful s.nodes.reach s.spare c.args.place (held s.nodes) c.args.cell c.args.old c.requires.old
-    c.if-was_blank.ensures c.requires.room c.if-is_blank.ensures
+    let z = g.V.Value.ops.is_zero in
+    record { filled = ap (all_filled z) c.take.ensures.list ∙ del_filled z c.args.place (held s.nodes) s.filled }
 
-pub returns-then-not-was_blank : goal.returns-then-not-was_blank
-returns-then-not-was_blank g c =
+pub invariant_of-self-else-is_blank : goal.invariant_of-self-else-is_blank
+invariant_of-self-else-is_blank g c =
     let s = c.args.self.now in
-    blanked g.V.Value.ops g.met.V.Value.lawful s.nodes.reach s.spare c.args.place (held s.nodes) c.args.cell _ _ _ c.args.old false
-    (held_asc s.nodes) c.requires.old c.if-not-was_blank.ensures c.if-is_blank.ensures c.take.ensures.reach c.take.ensures.list refl
+    let z = g.V.Value.ops.is_zero in
+    record { filled = ap (all_filled z) c.set.ensures.list ∙ over_filled z c.args.place c.args.cell (held s.nodes) s.filled c.if-is_blank.ensures }
 
-pub returns-else-not-was_blank : goal.returns-else-not-was_blank
-returns-else-not-was_blank g c =
+pub returns-then-is_blank : goal.returns-then-is_blank
+returns-then-is_blank g c =
     let s = c.args.self.now in
-    blanked g.V.Value.ops g.met.V.Value.lawful s.nodes.reach s.spare c.args.place (held s.nodes) c.args.cell _ _ _ c.args.old true
-    (held_asc s.nodes) c.requires.old c.if-not-was_blank.ensures c.if-is_blank.ensures c.take.ensures.reach c.take.ensures.list refl
+    blanked g.V.Value.ops g.met.V.Value.lawful s.nodes.reach s.nodes.loose c.args.place (held s.nodes) c.args.cell _ _ _ c.args.old
+    (held_asc s.nodes) s.filled c.requires c.if-is_blank.ensures c.take.ensures.reach c.take.ensures.list c.take.ensures.loose
 
-pub returns-then-was_blank : goal.returns-then-was_blank
-returns-then-was_blank g c =
+pub returns-else-is_blank : goal.returns-else-is_blank
+returns-else-is_blank g c =
     let s = c.args.self.now in
-    refilled g.V.Value.ops g.met.V.Value.lawful s.nodes.reach s.spare c.args.place (held s.nodes) c.args.cell _ _ _ c.args.old true
-    c.requires.old c.if-was_blank.ensures c.if-is_blank.ensures c.set.ensures.reach c.set.ensures.list refl
-
-pub returns-else-was_blank : goal.returns-else-was_blank
-returns-else-was_blank g c =
-    let s = c.args.self.now in
-    refilled g.V.Value.ops g.met.V.Value.lawful s.nodes.reach s.spare c.args.place (held s.nodes) c.args.cell _ _ _ c.args.old false
-    c.requires.old c.if-was_blank.ensures c.if-is_blank.ensures c.set.ensures.reach c.set.ensures.list refl
+    refilled g.V.Value.ops g.met.V.Value.lawful s.nodes.reach s.nodes.loose c.args.place (held s.nodes) c.args.cell _ _ _ c.args.old
+    s.filled c.requires c.if-is_blank.ensures c.set.ensures.reach c.set.ensures.list c.set.ensures.loose
