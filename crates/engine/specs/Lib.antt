@@ -4,3 +4,5 @@ pub mod Tables
 pub mod Acts
 pub mod Traces
 pub mod Listings
+pub mod Scopes
+pub mod HeldTokens

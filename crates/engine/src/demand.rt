@@ -34,8 +34,8 @@ impl Demand {
         Demand {
             bounded: are_codes(list),
             fits: V::is_register(place) && V::class(place).is_list(),
-            affordable: list.len() == 0 || list.len() < V::free_nodes(pool) as usize,
-            zero: list.len() == 0,
+            affordable: list.is_empty() || list.len() < V::free_nodes(pool) as usize,
+            zero: list.is_empty(),
         }
     }
 }

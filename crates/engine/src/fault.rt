@@ -1,6 +1,6 @@
 //! Why a call is refused, and where.
-ghost use Rattle.std.specs.Prelude.{◌≡◌, Ok, Err};
-ghost use Rattle.engine.specs.declared.fault.Cause.TheVariants.{Store};
+ghost use Rattle.std.specs.Prelude.{◌≡◌};
+ghost use Rattle.engine.specs.declared.fault.Cause.TheVariants.{Store, Call};
 ghost use Rattle.engine.specs.Faults.{cause_refusal, raised_at, fault_at};
 
 use crate::nesting::Nesting;
@@ -8,7 +8,7 @@ use stores::fault::StoreFault;
 use tokens::refusal::Refusal;
 
 /// Why a call is refused.
-#[derive(Clone, Copy)]
+#[derive(Clone, Copy, PartialEq, Eq, Debug)]
 pub enum Cause {
     /// The store's own fault, whole.
     Store(StoreFault),
@@ -19,14 +19,15 @@ pub enum Cause {
 }
 
 /// A refused call: why, and in which group.
-#[derive(Clone, Copy)]
+#[derive(Clone, Copy, PartialEq, Eq, Debug)]
 pub struct EngineFault {
     pub cause: Cause,
     pub nesting: Nesting,
 }
 
 /// A store's fault with the group in which it arose.
-#[derive(Clone, Copy)]
+// Kept: a type of its own for the way up, so that `?` raises the one fault to the other by `From`.
+#[derive(Clone, Copy, PartialEq, Eq, Debug)]
 pub struct InGroup {
     pub fault: StoreFault,
     pub nesting: Nesting,
@@ -47,13 +48,20 @@ impl From<InGroup> for EngineFault {
 pub fn raised<T>(answer: Result<T, StoreFault>, nesting: Nesting) -> Result<T, InGroup>
     ensures { result ≡ raised_at answer nesting }
 {
-    match answer {
-        Ok(x) => Ok(x),
-        Err(fault) => Err(InGroup { fault, nesting }),
-    }
+    answer.map_err(|fault| InGroup { fault, nesting })
 }
 
 impl EngineFault {
+    /// A call that is refused in a group, whatever place it is about.
+    pub(crate) fn of_call(refusal: Refusal, nesting: Nesting) -> EngineFault
+        ensures { result ≡ fault_at (Call refusal) nesting }
+    {
+        EngineFault {
+            cause: Cause::Call(refusal),
+            nesting,
+        }
+    }
+
     /// Which refusal it is.
     pub fn refusal(self) -> Refusal
         ensures { result ≡ cause_refusal self.cause }

@@ -6,7 +6,7 @@ ghost use Rattle.engine.specs.Listings.{listing_lines, listed_to, all_stand, lis
 use output::writer::Writer;
 use stores::store::Store;
 use tokens::refusal::Refusal;
-use trace::registers::listed;
+use trace::registers::{RegisterEvent, register_line};
 use values::value::Value;
 
 /// Writes every filled register on a line of its own, in order of place. It stops at the first line that does not fit.
@@ -21,12 +21,13 @@ pub fn listing<S: Store<V>, V: Value>(
         ≡ listed_to (out_of writer.old out.old) (listing_lines V.Value.ops (S.Store.model store.now) (V.Value.meaning pool.now)) }
 {
     let mut from = 0;
+    // Kept: a loop until no further place is filled, and no iterator: a store answers that by an Option, whatever it is made of.
     while let Some(place) = store.next_filled(from) {
         // A filled place is below the reach, so there always is a cell.
         let Some(cell) = store.cell(place) else {
             return Ok(());
         };
-        if !listed(writer, out, pool, place, &cell.value) {
+        if !register_line(writer, out, RegisterEvent::Listed, pool, place, &cell.value) {
             return Err(Refusal::NoLine);
         }
         from = place + 1;

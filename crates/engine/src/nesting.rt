@@ -5,7 +5,7 @@ ghost use Rattle.engine.specs.Nestings.{bottom, in_group};
 use tokens::group::{Group, GroupKind};
 
 /// The level, 1 outside all groups, and the current group, if there is one.
-#[derive(Clone, Copy)]
+#[derive(Clone, Copy, PartialEq, Eq, Debug)]
 pub struct Nesting {
     pub level: u8,
     pub group: Option<Group>,
@@ -26,9 +26,6 @@ impl Nesting {
     pub fn is_at(&self, kind: GroupKind, level: u8) -> bool
         ensures { result ≡ (nat_lt 1 self.now.level && (in_group self.now.group kind && level == self.now.level)) }
     {
-        let Some(group) = self.group else {
-            return false;
-        };
-        self.level > 1 && group.kind.is(kind) && level == self.level
+        self.level > 1 && self.group.is_some_and(|group| group.kind == kind) && level == self.level
     }
 }

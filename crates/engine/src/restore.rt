@@ -8,7 +8,7 @@ ghost use Rattle.trace.specs.Lines.{restoring as restoring_line, retaining as re
 use output::writer::Writer;
 use stores::cell::Cell;
 use stores::store::Store;
-use trace::registers::{restoring, retaining};
+use trace::registers::{RegisterEvent, register_line};
 use values::value::Value;
 
 /// Writes the saved cell back, unless the present one is of level 1: that one was assigned globally, and stays. What does not stay drops its use.
@@ -40,10 +40,24 @@ pub fn restore<S: Store<V>, V: Value>(
     };
     if present.level == 1 {
         saved.value.drop_use(pool);
-        retaining(writer, out, pool, place, &present.value);
+        register_line(
+            writer,
+            out,
+            RegisterEvent::Retaining,
+            pool,
+            place,
+            &present.value,
+        );
     } else {
         present.value.drop_use(pool);
         let _ = store.write(place, saved.value, saved.level);
-        restoring(writer, out, pool, place, &saved.value);
+        register_line(
+            writer,
+            out,
+            RegisterEvent::Restoring,
+            pool,
+            place,
+            &saved.value,
+        );
     }
 }

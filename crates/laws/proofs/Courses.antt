@@ -42,21 +42,21 @@ module _ {V M : Type 0} (k : Ops V M) where
   lowers_after : (e : Event) (es : List Event) (t u : Table V M) (n l : ℕ) → Does k e t u →
       ((j : ℕ) → balanced j es ≡ true → l + j ≡ u.level) → balanced n (e ∷ es) ≡ true → l + n ≡ t.level
   lowers_after begin es t u n l d ih b = let a = d.0 in let c = ih (suc n) b in omega arith
-  lowers_after end es t u zero l d ih b = let z : ◌≡◌ {A = ℕ} 0 1 = cc in omega arith
+  lowers_after end es t u zero l d ih b = cc
   lowers_after end es t u (suc n) l d ih b = let a = d.0 in let g = d.2 in let c = ih n b in omega arith
   lowers_after (global p r) es t u n l d ih b = let a = d.0 in let c = ih n b in omega arith
   lowers_after other es t u n l d ih b = let a = d.0 in let c = ih n b in omega arith
 
   lowers : (ms : List (Moment V M)) (t : Table V M) → Follows t ms → (n : ℕ) → balanced n (events ms) ≡ true → (ending t ms).level + n ≡ t.level
   lowers [] t f zero b = omega arith
-  lowers [] t f (suc n) b = let z : ◌≡◌ {A = ℕ} 0 1 = cc in omega arith
+  lowers [] t f (suc n) b = cc
   lowers (m ∷ ms) t f n b =
       lowers_after m.what (events ms) t m.table n (ending m.table ms).level f.0.does (lowers ms m.table f.1) b
 
   -- a row that ends higher has a latest opening
   pub latest : (t : Table V M) (ms : List (Moment V M)) → Follows t ms → t.level < (ending t ms).level → Opened ms
   latest t ms f h = elim (row ms) [
-    | inl x ↦ let a = lowers ms t f x.0 x.1 in let z : ⊥ = omega arith in elim z [ ]
+    | inl x ↦ let a = lowers ms t f x.0 x.1 in absurd (omega arith)
     | inr x ↦ x
   ]
 
@@ -70,7 +70,7 @@ module _ {V M : Type 0} (k : Ops V M) where
   kept_after begin es t u v q h d ih n b l =
       let a = d.0 in
       ih (suc n) b (omega arith) ∙ ap (last_global q es) (d.1 (suc n) q)
-  kept_after end es t u v q h d ih zero b l = let z : ◌≡◌ {A = ℕ} 0 1 = cc in let y : ⊥ = omega arith in elim y [ ]
+  kept_after end es t u v q h d ih zero b l = cc
   kept_after end es t u v q h d ih (suc n) b l =
       let a = d.0 in
       ih n b (omega arith) ∙ ap (last_global q es) (d.1 (suc n) q h)
@@ -84,7 +84,7 @@ module _ {V M : Type 0} (k : Ops V M) where
   kept : (ms : List (Moment V M)) (t : Table V M) → Follows t ms → (q : ℕ) → q < t.store.reach → Kept t (ending t ms) q (events ms)
   unfolding Kept
   kept [] t f q h zero b l = refl
-  kept [] t f q h (suc n) b l = let z : ◌≡◌ {A = ℕ} 0 1 = cc in let y : ⊥ = omega arith in elim y [ ]
+  kept [] t f q h (suc n) b l = cc
   kept (m ∷ ms) t f q h n b l =
       kept_after m.what (events ms) t m.table (ending m.table ms) q h f.0.does
       (kept ms m.table f.1 q (let a = f.0.reach in omega arith)) n b l

@@ -1,6 +1,7 @@
 -- What the tests of a call that is carried out came to.
 use Rattle.std.proofs.Common.{◌≡◌, ℕ, ◌<◌, Bool, true, false, cond, not, ◌&&◌, eqb, ltb, List, [], ◌∷◌, Some, None, Option, sym, refl, ap, ◌∙◌, arith}
 use borrow.Author.Tests.{eqb-false}
+use Rattle.std.proofs.lemmas.Bool.{and_parts, not-true, not-false}
 use Rattle.tokens.specs.Classes.{is_list}
 use Rattle.tokens.specs.declared.class.Class.{Class}
 use Rattle.tokens.specs.declared.class.Class.TheVariants.{Count, Dimen, Toks}
@@ -21,20 +22,6 @@ use Rattle.engine.specs.Faults.{first_of, is_none}
 use Rattle.engine.specs.Tables.{Table}
 use Rattle.engine.specs.Acts.{Source, given, fresh, sets, value_of, pool_of, chosen, demand_of, level_of, saving, cause_of, put_in, picked, passes}
 use Rattle.laws.proofs.Forms.{writes_is, topped, pushed_is}
-
--- tests turned round
-pub not_true : (b : Bool) → not b ≡ true → b ≡ false
-not_true true e = sym e
-not_true false e = refl
-
-pub not_false : (b : Bool) → not b ≡ false → b ≡ true
-not_false true e = refl
-not_false false e = sym e
-
--- both of two tests hold
-pub both : (a b : Bool) → (a && b) ≡ true → (a ≡ true) × (b ≡ true)
-both true b e = (refl, e)
-both false b e = (cc, cc)
 
 -- a test that was passed, and those after it
 pub pass : (b : Bool) (c : Cause) (r : Option Cause) → is_none (cond b (Some c) r) ≡ true → (b ≡ false) × (is_none r ≡ true)
@@ -87,18 +74,18 @@ module _ {V M : Type 0} (k : Ops V M) where
       let x4 = pass (not d.affordable) (Place NoNodes p) (first_of f5) x3.1 in
       let x5 = pass (full k.is_zero t.store p (d.zero && eqb (level_of k global t) 1)) (Store (Full p)) None x4.1 in
       record {
-        bounded = not_false d.bounded x0.0;
-        below = not_false (ltb p t.store.reach) x1.0;
-        fits = not_false d.fits x2.0;
+        bounded = not-false d.bounded x0.0;
+        below = not-false (ltb p t.store.reach) x1.0;
+        fits = not-false d.fits x2.0;
         room = x3.0;
-        affordable = not_false d.affordable x4.0;
+        affordable = not-false d.affordable x4.0;
         spare = x5.0;
       }
 
   -- its source is good
   good : (s : Source V) (m : M) (p : ℕ) → (demand_of k s m p).fits ≡ true → chosen k s m ≡ true → Good k s m p
-  good (given v) m p e d = (both (k.fits v p) (list_stands k v m) (both (k.register p) (k.fits v p && list_stands k v m) e).1).1
-  good (fresh ts b) m p e d = (not_true (k.there m b) d, suits_list ts (k.class_of p) (both (k.register p) (is_list (k.class_of p)) e).1)
+  good (given v) m p e d = (and_parts (k.fits v p) (list_stands k v m) (and_parts (k.register p) (k.fits v p && list_stands k v m) e).1).1
+  good (fresh ts b) m p e d = (not-true (k.there m b) d, suits_list ts (k.class_of p) (and_parts (k.register p) (is_list (k.class_of p)) e).1)
 
   -- what is asked of a source tells whether its value is zero
   zero_of : Laws k → (s : Source V) (m : M) (p : ℕ) → Good k s m p → (demand_of k s m p).zero ≡ k.is_zero (value_of k s)
@@ -119,7 +106,7 @@ module _ {V M : Type 0} (k : Ops V M) where
   module _ (laws : Laws k) (global : Bool) (t : Table V M) (p : ℕ) (s : Source V) (go : passes k (sets global p s) t ≡ true) where
     -- both parts of the test whether it is carried out
     tests : (is_none (cause_of k (sets global p s) t) ≡ true) × (picked k (sets global p s) t ≡ true)
-    tests = both (is_none (cause_of k (sets global p s) t)) (picked k (sets global p s) t) go
+    tests = and_parts (is_none (cause_of k (sets global p s) t)) (picked k (sets global p s) t) go
 
     -- an assignment that is carried out passed its tests, and its source is good
     pub grants : Granted k (demand_of k s t.pool p) global t p

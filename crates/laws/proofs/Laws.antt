@@ -67,7 +67,7 @@ module _ {V M : Type 0} (k : Ops V M) (laws : Laws k) where
           places_none k b t.store.reach t.store.cells (λ p. ap (λ (x : Cell V). one k b x.value) (n.blanks p) ∙ ap (λ (s : Bool). cond s 1 0) (laws.zero_bare b)) in
           let y : entries k b t.saves.held ≡ 0 = ap (entries k b) n.bare in
           omega arith;
-      low = λ m p h. let e = n.bottom in let z : ⊥ = omega arith in elim z [ ];
+      low = λ m p h. let e = n.bottom in absurd (omega arith);
       inside = subst (λ (xs : List (Entry V)). Within t.store.reach xs) (sym n.bare) tt;
       far = n.reaches;
       small = let e : length t.saves.held ≡ 0 = ap length n.bare in let r = n.rooms in omega arith;

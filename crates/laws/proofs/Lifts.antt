@@ -1,5 +1,6 @@
 -- A saved cell comes off the stack.
-use Rattle.std.proofs.Common.{◌≡◌, ℕ, suc, ◌+◌, ◌<◌, ◌≤◌, Bool, true, false, cond, not, ◌&&◌, eqb, ltb, List, ◌∷◌, length, sym, refl, ap, ◌∙◌, subst, inl, inr, arith, eqb-true}
+use Rattle.std.proofs.Common.{◌≡◌, ℕ, suc, ◌+◌, ◌<◌, ◌≤◌, Bool, true, false, cond, not, ◌&&◌, eqb, ltb, List, ◌∷◌, length, sym, ap, ◌∙◌, subst, inl, inr, arith, eqb-true}
+use Rattle.std.proofs.lemmas.Bool.{cases_Bool, and_left, and_right}
 use Rattle.tokens.specs.Limits.{top_entries}
 use Rattle.values.specs.Ops.{Ops, one}
 use Rattle.values.specs.Laws.{Laws}
@@ -12,14 +13,14 @@ use Rattle.engine.specs.Tables.{Table}
 use Rattle.engine.specs.Acts.{popped, unsaved}
 use Rattle.laws.specs.Law.{places, entries}
 use Rattle.laws.proofs.Fates.{back, fate}
-use Rattle.laws.proofs.Places.{test, place_held, put_below}
+use Rattle.laws.proofs.Places.{place_held, put_below}
 use Rattle.laws.proofs.Invariants.{Within, Inner, promise, Rests, rests_stands, fate_rests}
 use Rattle.laws.proofs.Forms.{writes_is}
 
 module _ {V : Type 0} (f : ℕ → Cell V) (p : ℕ) (c : Cell V) where
   -- the cell at q once the cell c that was saved at p is off the stack, where the present one stays
   off_stays : eqb (f p).level 1 ≡ true → (q : ℕ) → cond (eqb p q) (back c (f q)) (f q) ≡ f q
-  off_stays e q = elim (test (eqb p q)) [
+  off_stays e q = elim (cases_Bool (eqb p q)) [
     | inl d ↦
         let g : eqb (f q).level 1 ≡ true = ap (λ (i : ℕ). eqb (f i).level 1) (sym (eqb-true p q d)) ∙ e in
         ap (λ (s : Bool). cond s (back c (f q)) (f q)) d ∙ ap (λ (s : Bool). cond s (f q) c) g
@@ -28,7 +29,7 @@ module _ {V : Type 0} (f : ℕ → Cell V) (p : ℕ) (c : Cell V) where
 
   -- and where the saved cell goes back
   off_back : eqb (f p).level 1 ≡ false → (q : ℕ) → cond (eqb p q) (back c (f q)) (f q) ≡ put f p c q
-  off_back e q = elim (test (eqb p q)) [
+  off_back e q = elim (cases_Bool (eqb p q)) [
     | inl d ↦
         let g : eqb (f q).level 1 ≡ false = ap (λ (i : ℕ). eqb (f i).level 1) (sym (eqb-true p q d)) ∙ e in
         ap (λ (s : Bool). cond s (back c (f q)) (f q)) d ∙ ap (λ (s : Bool). cond s (f q) c) g ∙ sym (ap (λ (s : Bool). cond s c (f q)) d)
@@ -46,12 +47,7 @@ lifted k stays t p c es = record {
   pending = t.pending;
 }
 
--- a cell above level 1 is not blank, so nothing blank is filled
-not_full : (a b c : Bool) → b ≡ false → ((a && b) && c) ≡ false
-not_full true b c e = ap (λ (s : Bool). s && c) e
-not_full false b c e = refl
-
--- so the table is that one
+-- the table is that one: a cell above level 1 is not blank, so nothing blank is filled
 pub lifts : {V M : Type 0} (k : Ops V M) (t : Table V M) (p : ℕ) (c : Cell V) (es : List (Entry V)) (s : Bool) →
     eqb (t.store.cells p).level 1 ≡ s → ltb p t.store.reach ≡ true → unsaved k (ltb p t.store.reach) s t p c es ≡ lifted k s t p c es
 lifts k t p c es true e d = ap (λ (b : Bool). unsaved k b true t p c es) d
@@ -66,8 +62,7 @@ lifts {V} {M} k t p c es false e d =
     } in
     ap (λ (b : Bool). unsaved k b false t p c es) d
     ∙ ap f (writes_is k.is_zero t.store p c d
-    (not_full (k.is_zero (t.store.cells p).value) (eqb (t.store.cells p).level 1)
-    (not (is_blank k.is_zero c) && eqb t.store.spare 0) e))
+    (and_left _ (not (is_blank k.is_zero c) && eqb t.store.spare 0) (and_right (k.is_zero (t.store.cells p).value) _ e)))
 
 module _ {V M : Type 0} (k : Ops V M) (laws : Laws k) where
   -- from one table to another, each register keeps what it will read as once groups are closed

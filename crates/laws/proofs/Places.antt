@@ -1,17 +1,13 @@
 -- Counting the places and entries that hold a list.
-use Rattle.std.proofs.Common.{◌≡◌, ℕ, zero, suc, ◌+◌, ◌<◌, ◌≤◌, Bool, true, false, cond, eqb, ◌⊎◌, List, [], ◌∷◌, length, refl, ap, inl, inr, arith, ne_eqb, eqb-true}
+use Rattle.std.proofs.Common.{◌≡◌, ℕ, zero, suc, ◌+◌, ◌<◌, ◌≤◌, Bool, true, false, cond, eqb, List, [], ◌∷◌, length, refl, ap, inl, inr, arith, ne_eqb, eqb-true}
 use borrow.Author.Tests.{eqb-false}
+use Rattle.std.proofs.lemmas.Bool.{cases_Bool}
 use Rattle.values.specs.Ops.{Ops, one, names}
 use Rattle.stores.specs.Stores.{put}
 use Rattle.stores.specs.declared.cell.Cell.{Cell}
 use Rattle.save_stack.specs.declared.entry.Entry.{Entry}
 use Rattle.save_stack.specs.declared.entry.Entry.TheVariants.{Saved, Held, Boundary}
 use Rattle.laws.specs.Law.{places, entries}
-
--- a test, and which way it goes
-pub test : (b : Bool) → (b ≡ true) ⊎ (b ≡ false)
-test true = inl refl
-test false = inr refl
 
 module _ {V M : Type 0} (k : Ops V M) (b : ℕ) where
   -- a value holds a list at most once, so counts are at most what there is to count
@@ -31,7 +27,7 @@ module _ {V M : Type 0} (k : Ops V M) (b : ℕ) where
   -- what a place holds is counted
   pub place_held : (n q : ℕ) (f : ℕ → Cell V) → q < n → one k b (f q).value ≤ places k b n f
   place_held zero q f h = omega arith
-  place_held (suc n) q f h = elim (test (eqb q n)) [
+  place_held (suc n) q f h = elim (cases_Bool (eqb q n)) [
     | inl e ↦ let d : one k b (f q).value ≡ one k b (f n).value = ap (λ (i : ℕ). one k b (f i).value) (eqb-true q n e) in omega arith
     | inr e ↦ let d : ¬ (q ≡ n) = eqb-false q n e in let g = place_held n q f (omega arith) in omega arith
   ]
@@ -48,7 +44,7 @@ module _ {V M : Type 0} (k : Ops V M) (b : ℕ) where
   pub put_below : (n p : ℕ) (f : ℕ → Cell V) (c : Cell V) → p < n →
       places k b n (put f p c) + one k b (f p).value ≡ places k b n f + one k b c.value
   put_below zero p f c h = omega arith
-  put_below (suc n) p f c h = elim (test (eqb p n)) [
+  put_below (suc n) p f c h = elim (cases_Bool (eqb p n)) [
     | inl e ↦
         let q : p ≡ n = eqb-true p n e in
         let d : one k b (put f p c n).value ≡ one k b c.value = ap (λ (s : Bool). one k b (cond s c (f n)).value) e in

@@ -23,7 +23,7 @@ bounded n (x ∷ xs) d o (later a) =
 
 -- the first of some conditions is one that applies
 applies : (xs : List (Bool × Cause)) (c : Cause) → first_of xs ≡ Some c → Applies c xs
-applies [] c e = let z : ◌≡◌ {A = ℕ} 0 1 = cc in absurd (omega arith)
+applies [] c e = absurd cc
 applies ((true, b) ∷ xs) c e = let q : b ≡ c = cc in subst (λ (y : Cause). Applies y ((true, b) ∷ xs)) q here
 applies ((false, b) ∷ xs) c e = later (applies xs c e)
 
@@ -38,7 +38,7 @@ smallest n ((false, b) ∷ xs) c d o e (later a) = smallest (cause_number b) xs 
 -- where there is no first, none applies
 none : (xs : List (Bool × Cause)) (d : Cause) → first_of xs ≡ None → Applies d xs → ⊥
 none [] d e a = elim a [ ]
-none ((true, b) ∷ xs) d e a = let z : ◌≡◌ {A = ℕ} 0 1 = cc in omega arith
+none ((true, b) ∷ xs) d e a = cc
 none ((false, b) ∷ xs) d e (later a) = none xs d e a
 
 module _ {V M : Type 0} (k : Ops V M) where

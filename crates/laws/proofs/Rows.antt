@@ -1,8 +1,8 @@
 -- Rows of moments: global assignments, and openings that no close ends.
 use Rattle.std.proofs.Common.{◌≡◌, ℕ, zero, suc, Bool, true, cond, not, eqb, ◌⊎◌, List, [], ◌∷◌, ◌++◌, refl, ap, ◌∙◌, inl, inr, eq-eqb}
+use Rattle.std.proofs.lemmas.Bool.{and_parts, not-true}
 use Rattle.values.specs.Readings.{Reading}
 use Rattle.laws.specs.Histories.{Event, begin, end, global, other, Moment, events, balanced, untouched, Opened}
-use Rattle.laws.proofs.Grants.{not_true, both}
 
 -- as the last global assignment of the place set it, or else r
 abbrev pub last_global : ℕ → List Event → Reading → Reading
@@ -18,8 +18,8 @@ last_none p [] r e = refl
 last_none p (begin ∷ es) r e = last_none p es r e
 last_none p (end ∷ es) r e = last_none p es r e
 last_none p (global q x ∷ es) r e =
-    let d = both (not (eqb q p)) (untouched p es) e in
-    ap (λ (b : Bool). last_global p es (cond b x r)) (not_true (eqb q p) d.0) ∙ last_none p es r d.1
+    let d = and_parts (not (eqb q p)) (untouched p es) e in
+    ap (λ (b : Bool). last_global p es (cond b x r)) (not-true (eqb q p) d.0) ∙ last_none p es r d.1
 last_none p (other ∷ es) r e = last_none p es r e
 
 -- with none after one, it is as that one set it
@@ -58,9 +58,3 @@ module _ {V M : Type 0} where
   pub row : (ms : List (Moment V M)) → Row ms
   row [] = inl (0, refl)
   row (m ∷ ms) = row_more m ms (row ms)
-
-  -- a row in its parts
-  pub regroup : (xs : List (Moment V M)) (o : Moment V M) (ys : List (Moment V M)) (c : Moment V M) (zs : List (Moment V M)) →
-      (xs ++ (o ∷ ys)) ++ (c ∷ zs) ≡ xs ++ (o ∷ (ys ++ (c ∷ zs)))
-  regroup [] o ys c zs = refl
-  regroup (x ∷ xs) o ys c zs = ap (λ (ms : List (Moment V M)). x ∷ ms) (regroup xs o ys c zs)

@@ -1,5 +1,6 @@
 -- An assignment keeps tables sound, and the promises to their registers.
 use Rattle.std.proofs.Common.{◌≡◌, ℕ, suc, ◌+◌, ◌<◌, ◌≤◌, Bool, true, false, cond, eqb, ◌⊎◌, ◌∷◌, sym, refl, ap, ◌∙◌, subst, inl, inr, arith, ne_eqb, eqb-true}
+use Rattle.std.proofs.lemmas.Bool.{cases_Bool}
 use Rattle.tokens.specs.Limits.{top_uses}
 use Rattle.values.specs.Ops.{Ops, one}
 use Rattle.values.specs.Laws.{Laws}
@@ -11,7 +12,7 @@ use Rattle.engine.specs.Tables.{Table}
 use Rattle.engine.specs.Acts.{Source, value_of, reading_of, pool_of}
 use Rattle.laws.specs.Law.{places, entries}
 use Rattle.laws.proofs.Fates.{back, fate, fate_global, forget}
-use Rattle.laws.proofs.Places.{test, places_most, entries_most, place_held, put_below}
+use Rattle.laws.proofs.Places.{places_most, entries_most, place_held, put_below}
 use Rattle.laws.proofs.Invariants.{Inner, Sound, promise, Rests, fate_rests}
 use Rattle.laws.proofs.Grants.{Good, placed}
 use Rattle.laws.proofs.Sources.{uses_taken, keeps_taken, keeps_dropped, reads_dropped}
@@ -58,7 +59,7 @@ module _ {V M : Type 0} (k : Ops V M) (laws : Laws k) where
 
     -- no cell is above the level
     flat_put : (l : ℕ) → l ≤ t.level → (q : ℕ) → (put t.store.cells p (cell (value_of k s) l) q).level ≤ t.level
-    flat_put l h q = elim (test (eqb p q)) [
+    flat_put l h q = elim (cases_Bool (eqb p q)) [
       | inl e ↦ let d : (put t.store.cells p (cell (value_of k s) l) q).level ≡ l = ap (λ (x : Cell V). x.level) (at_p l q e) in omega arith
       | inr e ↦ let d : (put t.store.cells p (cell (value_of k s) l) q).level ≡ (t.store.cells q).level = ap (λ (x : Cell V). x.level) (off_p l q e) in
           let g = i.flat q in omega arith
@@ -76,7 +77,7 @@ module _ {V M : Type 0} (k : Ops V M) (laws : Laws k) where
     sound_global = record {
       inner = record {
         counted = counted_over 1;
-        low = λ n q h. elim (test (eqb p q)) [
+        low = λ n q h. elim (cases_Bool (eqb p q)) [
           | inl e ↦ let d : (fate (suc n) q t.saves.held (put t.store.cells p (cell (value_of k s) 1) q)).level ≡ 1 = ap (λ (x : Cell V). x.level) (global_at (suc n) q e) in
               omega arith
           | inr e ↦ subst (λ (x : Cell V). x.level + suc n ≤ t.level) (sym (global_off (suc n) q e)) (i.inner.low n q h)
@@ -96,7 +97,7 @@ module _ {V M : Type 0} (k : Ops V M) (laws : Laws k) where
         let y : Cell V = fate (suc n) q t.saves.held (put t.store.cells p (cell (value_of k s) 1) q) in
         let d : Rests k y.value u.pool = fate_rests k u sound_global.inner (suc n) q h in
         let old : V = (t.store.cells p).value in
-        elim (test (eqb p q)) [
+        elim (cases_Bool (eqb p q)) [
           | inl e ↦
               let a : Rests k (value_of k s) u.pool = subst (λ (x : Cell V). Rests k x.value u.pool) (global_at (suc n) q e) d in
               ap (λ (x : Cell V). k.reads x.value u.pool q) (global_at (suc n) q e)
@@ -118,7 +119,7 @@ module _ {V M : Type 0} (k : Ops V M) (laws : Laws k) where
         let new : Cell V = cell (value_of k s) t.level in
         let x : Cell V = put t.store.cells p new q in
         let far : eqb t.level 1 ≡ false = ne_eqb t.level 1 (λ d. omega arith) in
-        elim (test (eqb p q)) [
+        elim (cases_Bool (eqb p q)) [
           | inl e ↦
               ap (λ (b : Bool). cond b (back (t.store.cells p) x) x) e
               ∙ ap (back (t.store.cells p)) (at_p t.level q e)
@@ -158,7 +159,7 @@ module _ {V M : Type 0} (k : Ops V M) (laws : Laws k) where
         fate (suc n) q t.saves.held (put t.store.cells p (cell (value_of k s) t.level) q) ≡ fate (suc n) q t.saves.held (t.store.cells q)
     over_fate same n q h =
         let new : Cell V = cell (value_of k s) t.level in
-        elim (test (eqb p q)) [
+        elim (cases_Bool (eqb p q)) [
           | inl e ↦
               let here : (t.store.cells q).level ≡ t.level = ap (λ (j : ℕ). (t.store.cells j).level) (sym (eqb-true p q e)) ∙ same in
               let a : eqb t.level 1 ≡ false = ne_eqb t.level 1 (λ d. omega arith) in
@@ -170,8 +171,7 @@ module _ {V M : Type 0} (k : Ops V M) (laws : Laws k) where
                 | inr g ↦
                     let c : (fate 1 q t.saves.held (t.store.cells q)).level ≡ (t.store.cells q).level = ap (λ (x : Cell V). x.level) g in
                     let d = i.inner.low 0 q (omega arith) in
-                    let z : ⊥ = omega arith in
-                    elim z [ ]
+                    absurd (omega arith)
               ] in f)
           | inr e ↦ ap (fate (suc n) q t.saves.held) (off_p t.level q e)
         ]
@@ -182,7 +182,7 @@ module _ {V M : Type 0} (k : Ops V M) (laws : Laws k) where
       inner = record {
         counted = counted_over t.level;
         low = λ n q d. elim c [
-          | inl h ↦ let z : ⊥ = omega arith in elim z [ ]
+          | inl h ↦ absurd (omega arith)
           | inr same ↦ subst (λ (x : Cell V). x.level + suc n ≤ t.level) (sym (over_fate same n q d)) (i.inner.low n q d)
         ];
         inside = i.inner.inside;
@@ -196,7 +196,7 @@ module _ {V M : Type 0} (k : Ops V M) (laws : Laws k) where
     pub promise_over : (t.level ≤ 1 ⊎ (t.store.cells p).level ≡ t.level) → (n q : ℕ) → suc n < t.level → q < t.store.reach →
         promise k (suc n) (placed k false false t p s) q ≡ promise k (suc n) t q
     promise_over c n q l h = elim c [
-      | inl g ↦ let z : ⊥ = omega arith in elim z [ ]
+      | inl g ↦ absurd (omega arith)
       | inr same ↦
           let u : Table V M = placed k false false t p s in
           let z : Cell V = fate (suc n) q t.saves.held (t.store.cells q) in

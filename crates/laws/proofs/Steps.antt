@@ -1,5 +1,6 @@
 -- What is carried out keeps tables sound, and the promises to their registers.
 use Rattle.std.proofs.Common.{◌≡◌, ℕ, zero, suc, ◌+◌, ◌-◌, ◌<◌, ◌≤◌, Bool, true, false, cond, not, ◌&&◌, eqb, ltb, leb, ◌⊎◌, [], ◌∷◌, Some, None, Option, sym, refl, subst, inl, inr, arith, ltb-false, ltb-true, eqb-true}
+use Rattle.std.proofs.lemmas.Bool.{and_parts, not-false}
 use Rattle.tokens.specs.Codes.{is_code}
 use Rattle.tokens.specs.Limits.{top_level}
 use Rattle.tokens.specs.declared.group.Group.{Group}
@@ -19,7 +20,7 @@ use Rattle.laws.proofs.Fates.{fate}
 use Rattle.laws.proofs.Invariants.{Sound, promise}
 use Rattle.laws.proofs.Forms.{pushed_is}
 use Rattle.laws.proofs.Pops.{shut}
-use Rattle.laws.proofs.Grants.{both, not_false, pass, room_of, room_if, Good, grants, good_source, placed, placed_is}
+use Rattle.laws.proofs.Grants.{pass, room_of, room_if, Good, grants, good_source, placed, placed_is}
 use Rattle.laws.proofs.Sets.{sound_global, promise_global, sound_saved, promise_saved, sound_over, promise_over}
 
 module _ {V M : Type 0} (k : Ops V M) where
@@ -142,11 +143,11 @@ module _ {V M : Type 0} (k : Ops V M) (laws : Laws k) where
 
   -- a close is inside a group
   deep_of : (a b : Bool) (c : Cause) (r : Option Cause) → is_none (cond (not (a && b)) (Some c) r) ≡ true → a ≡ true
-  deep_of a b c r e = (both a b (not_false (a && b) (pass (not (a && b)) c r e).0)).0
+  deep_of a b c r e = (and_parts a b (not-false (a && b) (pass (not (a && b)) c r e).0)).0
 
   -- no test refuses what is carried out
   free : (a : Act V) (t : Table V M) → passes k a t ≡ true → is_none (cause_of k a t) ≡ true
-  free a t e = (both (is_none (cause_of k a t)) (picked k a t) e).0
+  free a t e = (and_parts (is_none (cause_of k a t)) (picked k a t) e).0
 
   -- what is carried out is a step
   pub step : (a : Act V) (t : Table V M) → Sound k t → passes k a t ≡ true → Step k (event k a t) t (done k a t)
@@ -158,7 +159,7 @@ module _ {V M : Type 0} (k : Ops V M) (laws : Laws k) where
       step_close true t i (ltb-true 1 t.level (deep_of (ltb 1 t.level) _ (Call OtherGroup) _ (free (closes kind l) t e)))
   step drops t i e =
       let x = pass (not (ltb 1 t.level)) (Call OtherGroup) None (free drops t e) in
-      step_close false t i (ltb-true 1 t.level (not_false (ltb 1 t.level) x.0))
+      step_close false t i (ltb-true 1 t.level (not-false (ltb 1 t.level) x.0))
   step (sets true p s) t i e =
       let x = grants k laws true t p s e in
       subst (λ (u : Table V M). Step k (global p (reading_of k s t.pool p)) t u)

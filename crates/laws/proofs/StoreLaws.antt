@@ -80,8 +80,8 @@ module _ {V : Type 0} (is_zero : V → Bool) where
   -- a write that is not refused
   reads_both : (s : StoreModel V) (p q : ℕ) (c : Cell V) (t u : Bool) → ltb p s.reach ≡ t → answer p t u ≡ Ok tt
       → (cell_at (after_write s p c t u) p ≡ Some c) × ((p ≡ q → ⊥) → cell_at (after_write s p c t u) q ≡ cell_at s q)
-  reads_both s p q c false u e h = let z : ◌≡◌ {A = ℕ} 0 1 = cc in absurd (omega arith)
-  reads_both s p q c true true e h = let z : ◌≡◌ {A = ℕ} 0 1 = cc in absurd (omega arith)
+  reads_both s p q c false u e h = absurd cc
+  reads_both s p q c true true e h = absurd cc
   reads_both s p q c true false e h = (
     ap (λ (b : Bool). cond {A = Option (Cell V)} b (Some (put s.cells p c p)) None) e
         ∙ ap (λ (b : Bool). Some (cond b c (s.cells p))) (eq-eqb p p refl),
@@ -95,7 +95,7 @@ module _ {V : Type 0} (is_zero : V → Bool) where
   stays_both : (s : StoreModel V) (p : ℕ) (c : Cell V) (f : StoreFault) (t u : Bool) → answer p t u ≡ Err f → after_write s p c t u ≡ s
   stays_both s p c f false u h = refl
   stays_both s p c f true true h = refl
-  stays_both s p c f true false h = let z : ◌≡◌ {A = ℕ} 0 1 = cc in absurd (omega arith)
+  stays_both s p c f true false h = cc
 
   refused_stays : (s : StoreModel V) → RefusedStays is_zero s
   refused_stays s p c f h = stays_both s p c f (ltb p s.reach) (full is_zero s p (is_blank is_zero c)) h
@@ -138,7 +138,7 @@ module _ {V : Type 0} (is_zero : V → Bool) where
         }
 
     found : (n p q : ℕ) → scan is_zero f p n ≡ Some q → Least p n q
-    found zero p q e = let z : ◌≡◌ {A = ℕ} 0 1 = cc in absurd (omega arith)
+    found zero p q e = absurd cc
     found (suc n) p q e = found_step n p q (is_blank is_zero (f p)) (found n (p + 1) q) refl e
 
     -- no place is filled, by whether the place in front is blank
@@ -146,7 +146,7 @@ module _ {V : Type 0} (is_zero : V → Bool) where
         → is_blank is_zero (f p) ≡ b → cond b (scan is_zero f (p + 1) n) (Some p) ≡ None
         → (r : ℕ) → p ≤ r → r < p + suc n → is_blank is_zero (f r) ≡ true
     absent_step n p true onward h e r a b = before p r h (λ x. onward e r x (omega arith)) a
-    absent_step n p false onward h e r a b = let z : ◌≡◌ {A = ℕ} 0 1 = cc in absurd (omega arith)
+    absent_step n p false onward h e r a b = cc
 
     absent : (n p : ℕ) → scan is_zero f p n ≡ None → (r : ℕ) → p ≤ r → r < p + n → is_blank is_zero (f r) ≡ true
     absent zero p e r a b = absurd (omega arith)

@@ -7,9 +7,12 @@ ghost use Rattle.engine.specs.Tables.{table_of};
 
 use crate::state::State;
 use engine::fault::EngineFault;
+use engine::target::Scope;
 use save_stack::stack::SaveStack;
 use stores::store::Store;
 use values::value::Value;
+
+// Kept: a local and a global name for each function of the engine. They are calls of their own, as TeX has two procedures (sections 277 and 279), the face keeps its names, and a body is but the scope.
 
 /// Assigns the value until the current group closes.
 pub fn assign<S: Store<V>, V: Value>(
@@ -26,7 +29,7 @@ pub fn assign<S: Store<V>, V: Value>(
         ≡ tried V.Value.ops (sets false place (given value))
         (table_of (S.Store.model store.old) (V.Value.meaning pool.old) state.now.nesting (stack_of saves.old) (stack_of state.now.pending)) }
 {
-    engine::assign::assign(store, pool, saves, state.nesting, false, place, value)
+    engine::assign::assign(store, pool, saves, state, Scope::Local, place, value)
 }
 
 /// Assigns the value in all groups.
@@ -44,7 +47,7 @@ pub fn assign_globally<S: Store<V>, V: Value>(
         ≡ tried V.Value.ops (sets true place (given value))
         (table_of (S.Store.model store.old) (V.Value.meaning pool.old) state.now.nesting (stack_of saves.old) (stack_of state.now.pending)) }
 {
-    engine::assign::assign(store, pool, saves, state.nesting, true, place, value)
+    engine::assign::assign(store, pool, saves, state, Scope::Global, place, value)
 }
 
 /// Makes a list of the tokens and assigns it until the current group closes. Which list of the pool it becomes is left open.
@@ -62,7 +65,7 @@ pub fn assign_list<S: Store<V>, V: Value>(
         ≡ tried V.Value.ops (sets false place (fresh list.now b))
         (table_of (S.Store.model store.old) (V.Value.meaning pool.old) state.now.nesting (stack_of saves.old) (stack_of state.now.pending))) }
 {
-    engine::assign::assign_list(store, pool, saves, state.nesting, false, place, list)
+    engine::assign::assign_list(store, pool, saves, state, Scope::Local, place, list)
 }
 
 /// Makes a list of the tokens and assigns it in all groups. Which list of the pool it becomes is left open.
@@ -80,5 +83,5 @@ pub fn assign_list_globally<S: Store<V>, V: Value>(
         ≡ tried V.Value.ops (sets true place (fresh list.now b))
         (table_of (S.Store.model store.old) (V.Value.meaning pool.old) state.now.nesting (stack_of saves.old) (stack_of state.now.pending))) }
 {
-    engine::assign::assign_list(store, pool, saves, state.nesting, true, place, list)
+    engine::assign::assign_list(store, pool, saves, state, Scope::Global, place, list)
 }

@@ -1,5 +1,5 @@
 //! Opening and closing groups.
-ghost use Rattle.std.specs.Prelude.{◌≡◌, ℕ, replicate};
+ghost use Rattle.std.specs.Prelude.{◌≡◌, replicate};
 ghost use Rattle.output.specs.Text.{told};
 ghost use Rattle.output.specs.Writers.{out_of};
 ghost use Rattle.stores.specs.Stores.{StoreModel};
@@ -35,13 +35,7 @@ pub fn open_group<V: Value>(
         ≡ told (out_of state.old.trace out.old)
         (lines_of V.Value.ops (opens (record { kind = kind; line = line })) (table_of s m state.old.nesting (stack_of saves.old) (stack_of state.old.pending))) }
 {
-    let level = open_group::open_group(
-        saves,
-        &mut state.nesting,
-        &mut state.trace,
-        out,
-        Group { kind, line },
-    )?;
+    let level = open_group::open_group(saves, state, out, Group { kind, line })?;
     Ok(GroupHandle { kind, level })
 }
 
@@ -64,23 +58,10 @@ pub fn close_group<S: Store<V>, V: Value>(
         (table_of (S.Store.model store.old) (V.Value.meaning pool.old) state.old.nesting (stack_of saves.old) (stack_of state.old.pending))) }
 {
     let GroupHandle { kind, level } = handle;
-    match close::close_group(
-        store,
-        pool,
-        saves,
-        &mut state.nesting,
-        &mut state.pending,
-        &mut state.trace,
-        out,
-        kind,
-        level,
-    ) {
-        Ok(()) => Ok(()),
-        Err(fault) => Err(StillOpen {
-            fault,
-            handle: GroupHandle { kind, level },
-        }),
-    }
+    close::close_group(store, pool, saves, state, out, kind, level).map_err(|fault| StillOpen {
+        fault,
+        handle: GroupHandle { kind, level },
+    })
 }
 
 /// Closes groups while the level is at least the handle's, and drops the tokens that they held back: how many it closed. It is never refused.
@@ -101,19 +82,11 @@ pub fn unwind<S: Store<V>, V: Value>(
         (table_of (S.Store.model store.old) (V.Value.meaning pool.old) state.old.nesting (stack_of saves.old) (stack_of state.old.pending))) }
 {
     let GroupHandle { kind: _, level } = handle;
-    close::unwind(
-        store,
-        pool,
-        saves,
-        &mut state.nesting,
-        &mut state.pending,
-        &mut state.trace,
-        out,
-        level,
-    )
+    close::unwind(store, pool, saves, state, out, level)
 }
 
 /// Holds a token back until the current group closes; outside all groups it does nothing.
+// Kept: the face has each call, this one too, though the engine's takes the same.
 pub fn save_for_after<V: Value>(
     saves: &mut SaveStack<V>,
     state: &State,
@@ -124,5 +97,5 @@ pub fn save_for_after<V: Value>(
     ensures table { (s : StoreModel V) (m : V.Value.Meaning) → table_of s m state.now.nesting (stack_of saves.new) (stack_of state.now.pending)
         ≡ tried V.Value.ops (holds code) (table_of s m state.now.nesting (stack_of saves.old) (stack_of state.now.pending)) }
 {
-    hold::save_for_after(saves, state.nesting, code)
+    hold::save_for_after(saves, state, code)
 }

@@ -9,6 +9,7 @@ use tokens::refusal::Refusal;
 use values::value::Value;
 
 /// Writes every filled register on a line of its own, in order of place. It stops at the first line that does not fit.
+// Kept: the face has the listing too, though the engine's takes the same.
 pub fn list_registers<S: Store<V>, V: Value>(
     store: &S,
     pool: &V::Pool,

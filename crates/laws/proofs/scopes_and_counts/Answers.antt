@@ -6,5 +6,5 @@ use Rattle.laws.proofs.scopes_and_counts.Goals as goal
 
 pub returns : goal.returns
 returns g c = law g.V.Value.ops g.met.V.Value.lawful
-    (table_of (g.S.Store.model c.args.store.now) (g.V.Value.meaning c.args.pool.now) c.args.nesting
-    (stack_of c.args.saves.now) (stack_of c.args.pending.now))
+    (table_of (g.S.Store.model c.args.store.now) (g.V.Value.meaning c.args.pool.now) c.args.state.now.nesting
+    (stack_of c.args.saves.now) (stack_of c.args.state.now.pending))

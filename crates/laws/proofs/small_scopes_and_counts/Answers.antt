@@ -11,6 +11,6 @@ returns c =
     let n = small_new (length c.args.cells.now) (length c.args.entries.now) (length c.args.words.now) in (
       n,
       subst (λ (t : Table Plain (Unit {0})). Law plain_ops t)
-          (same_table c.new-store.ensures refl c.new.ensures c.limited-saves.ensures c.new-pending.ensures)
+          (same_table c.new-store.ensures refl c.new-state.ensures.0 c.limited-saves.ensures c.new-state.ensures.1)
           c.scopes_and_counts.ensures n,
     )

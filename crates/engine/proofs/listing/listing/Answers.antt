@@ -15,8 +15,8 @@ returns-in_default-cell g c =
     let h = f.high in
     absurd (told_none s c.in-Some.place c.in_default-cell.ensures (omega arith))
 
-pub returns-then-not-listed : goal.returns-then-not-listed
-returns-then-not-listed g c =
+pub returns-then-not-register_line : goal.returns-then-not-register_line
+returns-then-not-register_line g c =
     let k = g.V.Value.ops in
     let s = g.S.Store.model c.args.store.now in
     let m = g.V.Value.meaning c.args.pool.now in
@@ -27,7 +27,7 @@ returns-then-not-listed g c =
     let l = f.low in
     let h = f.high in
     let e = ap (λ z. listed (k.shown z.value m q)) (told_cell s q c.in-Some-cell.ensures (omega arith)) in
-    let w = c.if-not-listed.ensures in
+    let w = c.if-not-register_line.ensures in
     let stop : stands o (line_at k s m q) ≡ false = ap (stands o) (sym e) ∙ sym w.result in
     let r = rest k s m p q f in
     record {
@@ -57,11 +57,11 @@ loop-place-preserved g c =
     let h = f.high in
     let n = c.in-Some.ensures.near in
     let e = ap (λ z. listed (k.shown z.value m q)) (told_cell s q c.in-Some-cell.ensures (omega arith)) in
-    let w = c.if-not-listed.ensures in
+    let w = c.if-not-register_line.ensures in
     let go : stands o (line_at k s m q) ≡ true = ap (stands o) (sym e) ∙ sym w.result in
     let r = rest k s m p q f in
     let ls = lines_from k s m (q + 1) (s.reach - (q + 1)) in
-    let v : out_of c.listed.new.writer c.listed.new.out ≡ wrote o (line_at k s m q) = w.wrote ∙ ap (wrote o) e in (
+    let v : out_of c.register_line.new.writer c.register_line.new.out ≡ wrote o (line_at k s m q) = w.wrote ∙ ap (wrote o) e in (
       omega arith,
       ap (λ (z : Out). listed_to z ls) v ∙ to_stands o (line_at k s m q) ls (lines_from k s m p (s.reach - p)) r go ∙ c.loop-place.invariant.1,
       ap (λ (z : Out). all_stand z ls) v ∙ all_stands o (line_at k s m q) ls (lines_from k s m p (s.reach - p)) r go ∙ c.loop-place.invariant.2,
