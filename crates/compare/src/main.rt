@@ -2,6 +2,7 @@
 #![tactic(auto)]
 
 mod judge;
+mod model;
 mod play;
 mod script;
 mod tables;
@@ -9,24 +10,24 @@ mod tables;
 use script::Dice;
 use tables::agree;
 
-/// How many sequences are played, and how many calls each has.
+/// How many sequences are played.
 const SEQUENCES: u32 = 2000;
 
-const CALLS: u32 = 60;
+/// How many calls each sequence has.
+const CALLS: usize = 60;
 
-fn play_all(rt: &HostRuntime) -> anyhow::Result<()> {
-    let mut dice = Dice { state: 20_261_117 };
-    let mut carried_out: u64 = 0;
-    for _ in 0..SEQUENCES {
-        let done = agree(rt.alloc(), &mut dice, CALLS)?;
-        carried_out = carried_out.saturating_add(done as u64);
-    }
+/// Plays all sequences: how many calls were carried out.
+fn play_all(rt: &HostRuntime) -> anyhow::Result<usize> {
+    let mut dice = Dice::new(20_261_117);
+    (0..SEQUENCES).try_fold(0usize, |sum, _| {
+        Ok(sum.saturating_add(agree(rt.alloc(), &mut dice, CALLS)?))
+    })
+}
+
+fn main(rt: HostRuntime) -> anyhow::Result<()> {
+    let carried_out = play_all(&rt)?;
     println!(rt;
         "{SEQUENCES} sequences of {CALLS} calls, {carried_out} carried out: four tables and the judge agree"
     )?;
     Ok(())
-}
-
-fn main(rt: HostRuntime) -> anyhow::Result<()> {
-    play_all(&rt)
 }

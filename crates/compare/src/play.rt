@@ -1,124 +1,131 @@
 //! A sequence of calls on a table, whatever its store and its kind of value.
 use crate::judge::Numbers;
+use crate::model::Model;
 use crate::script::Step;
 use engine::assign::assign;
 use engine::close::{close_group, unwind};
 use engine::hold::save_for_after;
-use engine::nesting::Nesting;
 use engine::open_group::open_group;
-use output::writer::Writer;
+use engine::state::State;
 use save_stack::entry::Entry;
-use save_stack::stack::{Pending, SaveStack, Stack};
+use save_stack::stack::{SaveStack, Stack};
+use std::alloc::{AllocError, Global};
+use std::array;
 use stores::store::Store;
-use tokens::group::Group;
 use values::scalar::Scalar;
-use values::value::Value;
 
-/// What a sequence of calls comes to: how many were carried out, what the registers read as, and the trace.
-#[derive(Drop)]
+/// The room of each save stack: enough that no call is refused for want of it.
+const ENTRIES: usize = 256;
+
+/// The room for the tokens that wait to be read.
+const WORDS: usize = 256;
+
+/// The room for the trace.
+const TRACE: usize = 8192;
+
+/// What a sequence of calls comes to: how many were carried out, what the registers read as, the trace, and how many of its lines were lost.
+#[derive(PartialEq, Eq, Drop)]
 pub struct Outcome {
-    pub carried_out: u32,
+    pub carried_out: usize,
     pub numbers: Numbers,
-    pub writer: Writer,
-    pub trace: [u8; 8192],
+    pub trace: Vec<u8>,
+    pub lost: u32,
 }
 
-impl Outcome {
-    pub(crate) fn new() -> Outcome {
-        Outcome {
-            carried_out: 0,
-            numbers: Numbers { at: [0; 256] },
-            writer: Writer::new(),
-            trace: [0; 8192],
-        }
-    }
+/// A table but for its save stack, which is lent to each call beside it, and the output of its trace.
+#[derive(Drop)]
+struct Table<'a, S, V: Model>
+where
+    V::Pool: Drop,
+{
+    store: S,
+    pool: V::Pool,
+    state: State<'a>,
+    out: Vec<u8>,
 }
 
-/// Works a call: whether it is carried out.
-fn work<S: Store<V>, V: Value>(
-    store: &mut S,
-    pool: &mut V::Pool,
-    saves: &mut SaveStack<V>,
-    nesting: &mut Nesting,
-    pending: &mut Pending,
-    writer: &mut Writer,
-    out: &mut [u8],
-    spread: u8,
-    step: Step,
-) -> bool {
-    match step {
-        Step::Open(kind, line) => open_group(
-            saves,
-            nesting,
-            writer,
-            out,
-            Group { kind, line },
-        ).is_ok(),
-        Step::Close(kind) => {
-            let level = nesting.level;
-            close_group(
-                store, pool, saves, nesting, pending, writer, out, kind, level,
-            )
-            .is_ok()
-        }
-        Step::Unwind(level) => {
-            unwind(store, pool, saves, nesting, pending, writer, out, level);
-            true
-        }
-        Step::Assign {
-            global,
-            register,
-            number,
-        } => {
-            let place = register as u32 * spread as u32;
-            let value = V::of_scalar(Scalar::Number(number));
-            assign(store, pool, saves, *nesting, global, place, value).is_ok()
-        }
-        Step::Hold(code) => save_for_after(saves, *nesting, code).is_ok(),
-    }
-}
-
-/// The number that a register reads as; 0 if it reads as none.
-fn read<S: Store<V>, V: Value>(store: &S, pool: &V::Pool, place: u32) -> i32 {
-    let Some(cell) = store.cell(place) else {
-        return 0;
-    };
-    match cell.value.scalar(pool, place) {
-        Some(Scalar::Number(number)) => number,
-        _ => 0,
-    }
-}
-
-/// Plays the calls on a new table, with the entries as memory of its save stack. Register n is the place n times `spread`.
-pub(crate) fn play<S: Store<V>, V: Value>(
-    store: &mut S,
-    pool: &mut V::Pool,
-    entries: &mut [Entry<V>],
-    spread: u8,
-    steps: &[Step],
-) -> Outcome {
-    let mut words = [0u16; 256];
-    let mut saves = Stack::limited(entries);
-    let mut pending = Stack::new(&mut words);
-    let mut nesting = Nesting::new();
-    let mut outcome = Outcome::new();
-    for step in steps {
-        if work(
+impl<'a, S: Store<V>, V: Model> Table<'a, S, V>
+where
+    V::Pool: Drop,
+{
+    /// Works a call: whether it is carried out.
+    fn work(&mut self, saves: &mut SaveStack<V>, step: Step) -> bool {
+        let Table {
             store,
             pool,
-            &mut saves,
-            &mut nesting,
-            &mut pending,
-            &mut outcome.writer,
-            &mut outcome.trace,
-            spread,
-            *step,
-        ) {
-            outcome.carried_out = outcome.carried_out.saturating_add(1);
+            state,
+            out,
+        } = self;
+        match step {
+            Step::Open(group) => open_group(saves, state, out, group).is_ok(),
+            Step::Close(kind) => {
+                let level = state.nesting.level;
+                close_group(store, pool, saves, state, out, kind, level).is_ok()
+            }
+            Step::Unwind(level) => {
+                unwind(store, pool, saves, state, out, level);
+                true
+            }
+            Step::Assign {
+                scope,
+                register,
+                number,
+            } => {
+                let place = V::place(register);
+                let value = V::of_scalar(Scalar::Number(number));
+                assign(store, pool, saves, state, scope, place, value).is_ok()
+            }
+            Step::Hold(code) => save_for_after(saves, state, code).is_ok(),
         }
     }
-    for i in 0..256 {
-        outcome.numbers.at[i] = read(store, pool, i as u32 * spread as u32);
+
+    /// Works the calls, one after the other: how many are carried out.
+    fn work_all(&mut self, saves: &mut SaveStack<V>, steps: &[Step]) -> usize {
+        steps.iter().filter(|step| self.work(saves, **step)).count()
     }
-    outcome
+
+    /// The number that a register reads as; 0 if it reads as none.
+    fn read(&self, register: u8) -> i32 {
+        let place = V::place(register);
+        let Some(cell) = self.store.cell(place) else {
+            return 0;
+        };
+        match cell.value.scalar(&self.pool, place) {
+            Some(Scalar::Number(number)) => number,
+            _ => 0,
+        }
+    }
+}
+
+/// Plays the calls on a new table over the store.
+pub(crate) fn play<S: Store<V> + Drop, V: Model>(
+    heap: Global,
+    store: S,
+    steps: &[Step],
+) -> Result<Outcome, AllocError>
+where
+    V::Pool: Drop,
+{
+    let mut entries = vec![in heap; Entry::<V>::Held(0); ENTRIES]?;
+    let mut words = vec![in heap; 0; WORDS]?;
+    let out = vec![in heap; 0; TRACE]?;
+    let state = State::new(&mut words);
+    let mut table = Table {
+        store,
+        pool: V::pool(heap),
+        state,
+        out,
+    };
+    let mut saves = Stack::limited(&mut entries);
+    let carried_out = table.work_all(&mut saves, steps);
+    let numbers = array::from_fn(|register| table.read(register as u8));
+    let Table { state, out, .. } = table;
+    let mut trace = out;
+    trace.truncate(state.trace.mark);
+    Ok(Outcome {
+        carried_out,
+        numbers,
+        trace,
+        lost: state.trace.lost,
+    })
 }

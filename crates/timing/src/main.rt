@@ -1,75 +1,100 @@
 //! How long the sparse store takes, few cells against many. Without the word `measure` it only says how it is used, since times differ from run to run.
 #![tactic(auto)]
 
+ghost use Rattle.std.specs.Prelude.{◌<◌};
+
 use anyhow::anyhow;
 use sparse::node::Tip;
 use sparse::sparse::Sparse;
 use std::env;
 use std::time::Instant;
-use stores::fault::StoreFault;
 use stores::store::Store;
+use tokens::limits::MAX_REACH;
 use values::plain::Plain;
 
 /// How many places the stores reach.
-const REACH: u32 = 131_072;
+const REACH: u32 = MAX_REACH as u32;
+
 /// How many turns are timed: each reads twice, blanks a cell and fills it again.
 const TURNS: u32 = 250_000;
 
-/// The most cells of which there is one at every second place.
-const MANY: u32 = 65_535;
-
+/// The cells of the small store.
 const FEW: u32 = 512;
 
-fn accepted(answer: Result<(), StoreFault>) -> anyhow::Result<()> {
-    match answer {
-        Ok(()) => Ok(()),
-        Err(_) => Err(anyhow!("the store refused a write: it was given too few nodes")),
-    }
+/// The cells of the large one: the most of which there is one at every second place.
+const MANY: u32 = 65_535;
+
+/// A store whose filled places are so many multiples of a step, from 0 on.
+#[derive(Drop)]
+struct Filled {
+    store: Sparse<Plain>,
+    cells: u32,
+    step: u32,
+    ghost some: { 0 < cells },
 }
 
-/// Fills the store: a cell at every place that is a multiple of the step.
-fn fill(store: &mut Sparse<Plain>, cells: u32, step: u32) -> anyhow::Result<()> {
-    for i in 0..cells {
-        accepted(store.write(i.saturating_mul(step), Plain { number: 1 }, 2))?;
+impl Filled {
+    /// A store with so many cells, as far apart as its reach allows.
+    fn new(rt: &HostRuntime, cells: u32) -> anyhow::Result<Filled>
+        requires { 0 < cells }
+    {
+        let nodes = vec![in rt.alloc(); Tip::<Plain>::empty(); cells as usize]?;
+        let mut filled = Filled {
+            store: Sparse::new(nodes, REACH),
+            cells,
+            step: REACH / cells,
+        };
+        for n in 0..cells {
+            filled.write(filled.place(n), 1, 2)?;
+        }
+        Ok(filled)
     }
-    Ok(())
-}
 
-/// The number at a place; 0 past the reach.
-fn number_at(store: &Sparse<Plain>, place: u32) -> i32 {
-    match store.cell(place) {
-        Some(cell) => cell.value.number,
-        None => 0,
+    /// One of the filled places, whatever the number.
+    fn place(&self, n: u32) -> u32 {
+        (n % self.cells).saturating_mul(self.step)
     }
-}
 
-/// A million calls at places in no order: the sum of what was read.
-fn work(store: &mut Sparse<Plain>, cells: u32, step: u32) -> anyhow::Result<i32> {
-    let mut sum: i32 = 0;
-    for i in 0..TURNS {
-        let near = (i.wrapping_mul(2_654_435_769) % cells.max(1)).saturating_mul(step);
-        let far = (i.wrapping_mul(2_246_822_519) % cells.max(1)).saturating_mul(step);
-        sum = sum.saturating_add(number_at(store, near));
-        sum = sum.saturating_add(number_at(store, far));
-        accepted(store.write(near, Plain { number: 0 }, 1))?;
-        accepted(store.write(near, Plain { number: 1 }, 2))?;
+    /// Writes a number at the level.
+    fn write(&mut self, place: u32, number: i32, level: u8) -> anyhow::Result<()> {
+        self.store.write(place, number.into(), level).map_err(|_| anyhow!(
+            "the store refused a write: it was given too few nodes"
+        ))
     }
-    Ok(sum)
+
+    /// The number at a place; 0 past the reach.
+    fn number_at(&self, place: u32) -> i32 {
+        self.store.cell(place).map_or(0, |cell| cell.value.number)
+    }
+
+    /// A million calls at places in no order: the sum of what was read.
+    fn work(&mut self) -> anyhow::Result<i32> {
+        let mut sum: i32 = 0;
+        for turn in 0..TURNS {
+            let near = self.place(turn.wrapping_mul(2_654_435_769));
+            let far = self.place(turn.wrapping_mul(2_246_822_519));
+            sum = sum.saturating_add(self.number_at(near));
+            sum = sum.saturating_add(self.number_at(far));
+            self.write(near, 0, 1)?;
+            self.write(near, 1, 2)?;
+        }
+        Ok(sum)
+    }
 }
 
 /// Times the calls on a store of so many cells, in milliseconds.
-fn timed(rt: &HostRuntime, cells: u32) -> anyhow::Result<u128> {
-    let nodes = vec![in rt.alloc(); Tip::<Plain>::empty(); cells as usize]?;
-    let mut store = Sparse::new(nodes, REACH);
-    let step = REACH / cells.max(1);
-    fill(&mut store, cells, step)?;
+fn timed(rt: &HostRuntime, cells: u32) -> anyhow::Result<u128>
+    requires { 0 < cells }
+{
+    let mut filled = Filled::new(rt, cells)?;
     let start = Instant::now(rt)?;
-    let sum = work(&mut store, cells, step)?;
+    let sum = filled.work()?;
     let time = start.elapsed(rt)?.as_millis();
     println!(rt; "{cells} cells: a million calls in {time} ms, the sum of what was read is {sum}")?;
     Ok(time)
 }
 
+/// Times both stores, and holds the times against each other.
 fn measure(rt: &HostRuntime) -> anyhow::Result<()> {
     let few = timed(rt, FEW)?;
     let many = timed(rt, MANY)?;
@@ -80,22 +105,14 @@ fn measure(rt: &HostRuntime) -> anyhow::Result<()> {
 
 /// Whether the program was given the word `measure`.
 fn is_asked(rt: &HostRuntime) -> anyhow::Result<bool> {
-    let mut words = env::args(rt)?;
-    let _ = words.next();
-    match words.next() {
-        Some(word) => Ok(word.as_str() == "measure"),
-        None => Ok(false),
-    }
-}
-
-fn usual(rt: &HostRuntime) -> anyhow::Result<()> {
-    if is_asked(rt)? {
-        return measure(rt);
-    }
-    println!(rt; "timing: give the word 'measure' to time the sparse store")?;
-    Ok(())
+    let word = env::args(rt)?.nth(1);
+    Ok(word.is_some_and(|word| word.as_str() == "measure"))
 }
 
 fn main(rt: HostRuntime) -> anyhow::Result<()> {
-    usual(&rt)
+    if is_asked(&rt)? {
+        return measure(&rt);
+    }
+    println!(rt; "timing: give the word 'measure' to time the sparse store")?;
+    Ok(())
 }

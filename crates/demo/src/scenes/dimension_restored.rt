@@ -1,54 +1,30 @@
 //! A dimension is restored.
-use crate::large::{pool_of, store_of};
-use crate::parts::{carried_out, close, print_registers, print_written};
+use crate::models::{place, pool_of, store_of};
+use crate::table::{Memory, Table, entries_of};
 use mixed::mixed::Mixed;
-use registers::assign::assign;
-use registers::group::open_group;
-use registers::state::State;
-use save_stack::entry::Entry;
 use save_stack::stack::Stack;
+use tokens::class::Class;
 use tokens::group::GroupKind;
 
-/// The place of `\dimen0`.
-const DIMEN_0: u32 = 1;
+/// A point, in scaled points.
+const POINT: i32 = 65_536;
 
 /// `\dimen0=-1.5pt \begingroup\dimen0=2pt \endgroup`
 pub(crate) fn play(rt: &HostRuntime) -> anyhow::Result<()> {
-    let mut store = store_of(rt.alloc(), 16)?;
-    let mut pool = pool_of(rt.alloc(), 0)?;
-    let mut entries = [Entry::<Mixed>::Held(0); 16];
-    let mut words = [0u16; 16];
-    let mut out = [0u8; 1024];
-    let mut saves = Stack::limited(&mut entries);
-    let mut state = State::new(&mut words);
-    carried_out(assign(
-        &mut store,
-        &mut pool,
-        &mut saves,
-        &state,
-        DIMEN_0,
-        Mixed::Dimension(-98_304),
-    ))?;
-    let group = carried_out(open_group(
-        &mut saves,
-        &mut state,
-        &mut out,
-        GroupKind::SemiSimple,
-        2,
-    ))?;
-    let inside = assign(
-        &mut store,
-        &mut pool,
-        &mut saves,
-        &state,
-        DIMEN_0,
-        Mixed::Dimension(131_072),
-    );
-    let closed = close(
-        &mut store, &mut pool, &mut saves, &mut state, &mut out, group,
-    );
-    carried_out(inside)?;
-    carried_out(closed)?;
-    print_written(rt, &out, &state.trace)?;
-    print_registers(rt, &store, &pool)
+    let heap = rt.alloc();
+    let mut entries = entries_of(heap, 16)?;
+    let mut stack = Stack::limited(&mut entries);
+    let saves = &mut stack;
+    let mut memory = Memory::new(heap, 16, 1024)?;
+    let mut table = Table::new(store_of(heap, 16)?, pool_of(heap, 0)?, &mut memory);
+    table.assign(
+        saves,
+        place(Class::Dimen, 0),
+        Mixed::Dimension(-3 * POINT / 2),
+    )?;
+    table.in_group(saves, GroupKind::SemiSimple, 2, |table, saves| {
+        table.assign(saves, place(Class::Dimen, 0), Mixed::Dimension(2 * POINT))
+    })?;
+    table.print_trace(rt)?;
+    table.print_registers(rt)
 }

@@ -1,49 +1,35 @@
 //! Tokens held back in a group land in pending when it closes, in the order in which they were given.
-use crate::parts::{carried_out, close, number};
-use engine::fault::EngineFault;
-use registers::group::{open_group, save_for_after};
-use registers::state::State;
-use save_stack::entry::Entry;
-use save_stack::stack::{SaveStack, Stack};
+use crate::table::{Memory, Table, entries_of};
+use save_stack::stack::{Pending, Stack};
 use stores::cell::Cell;
 use stores::flat::Flat;
+use tokens::class::Class;
 use tokens::group::GroupKind;
-use values::plain::{NoPool, Plain};
+use values::plain::{NoPool, PLAIN_COUNTS, Plain};
 
-/// The code of the word `\count`.
-const COUNT: u16 = 262;
-
-fn hold(saves: &mut SaveStack<Plain>, state: &State) -> Result<(), EngineFault> {
-    save_for_after(saves, state, COUNT)?;
-    save_for_after(saves, state, 51)?;
-    save_for_after(saves, state, 61)?;
-    save_for_after(saves, state, 52)
-}
-
-/// `\hbox{\aftergroup\count\aftergroup3\aftergroup=\aftergroup4}`
-pub(crate) fn play(rt: &HostRuntime) -> anyhow::Result<()> {
-    let mut cells = [Cell {
-        value: number(0),
-        level: 1,
-    }; 256];
-    let mut entries = [Entry::<Plain>::Held(0); 16];
-    let mut words = [0u16; 16];
-    let mut out = [0u8; 1024];
-    let mut store = Flat::new(&mut cells);
-    let mut pool = NoPool {};
-    let mut saves = Stack::limited(&mut entries);
-    let mut state = State::new(&mut words);
-    let group = carried_out(open_group(&mut saves, &mut state, &mut out, GroupKind::Hbox, 7))?;
-    let held = hold(&mut saves, &state);
-    let closed = close(
-        &mut store, &mut pool, &mut saves, &mut state, &mut out, group,
-    );
-    carried_out(held)?;
-    carried_out(closed)?;
+/// Prints the tokens that wait to be read, in the order in which they will be.
+fn print_pending(rt: &HostRuntime, pending: &mut Pending) -> anyhow::Result<()> {
     print!(rt; "pending")?;
-    while let Some(code) = state.pending.pop() {
+    while let Some(code) = pending.pop() {
         print!(rt; " {code}")?;
     }
     println!(rt; "")?;
     Ok(())
+}
+
+/// `\hbox{\aftergroup\count\aftergroup3\aftergroup=\aftergroup4}`
+pub(crate) fn play(rt: &HostRuntime) -> anyhow::Result<()> {
+    let mut cells = [Cell::<Plain>::blank(); PLAIN_COUNTS as usize];
+    let mut entries = entries_of(rt.alloc(), 16)?;
+    let mut stack = Stack::limited(&mut entries);
+    let saves = &mut stack;
+    let mut memory = Memory::new(rt.alloc(), 16, 1024)?;
+    let mut table = Table::new(Flat::new(&mut cells), NoPool, &mut memory);
+    table.in_group(saves, GroupKind::Hbox, 7, |table, saves| {
+        table.hold(saves, Class::Count.code())?;
+        table.hold(saves, u16::from(b'3'))?;
+        table.hold(saves, u16::from(b'='))?;
+        table.hold(saves, u16::from(b'4'))
+    })?;
+    print_pending(rt, &mut table.state.pending)
 }

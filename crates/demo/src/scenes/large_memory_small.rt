@@ -1,39 +1,31 @@
 //! Memory that is too small for a list, and for a cell.
-use crate::large::{pool_of, store_of, toks};
-use crate::parts::{carried_out, print_registers, refusal_of};
+use crate::models::{place, pool_of, store_of};
+use crate::refused::number_of;
+use crate::table::{Memory, Table, entries_of};
 use mixed::mixed::Mixed;
-use registers::assign::{assign, assign_list};
-use registers::state::State;
-use save_stack::entry::Entry;
 use save_stack::stack::Stack;
-use values::value::Value;
+use tokens::class::Class;
 
 /// A store of one node and a pool of two: a list of two tokens needs three, and a second register a second node.
 pub(crate) fn play(rt: &HostRuntime) -> anyhow::Result<()> {
-    let mut store = store_of(rt.alloc(), 1)?;
-    let mut pool = pool_of(rt.alloc(), 2)?;
-    let mut entries = [Entry::<Mixed>::Held(0); 1];
-    let mut words = [0u16; 1];
-    let mut saves = Stack::limited(&mut entries);
-    let state = State::new(&mut words);
-    let list = refusal_of(assign_list(
-        &mut store,
-        &mut pool,
-        &mut saves,
-        &state,
-        toks(1),
-        &[97, 98],
-    ));
-    carried_out(assign(
-        &mut store,
-        &mut pool,
-        &mut saves,
-        &state,
-        0,
-        Mixed::Number(5),
-    ))?;
-    let cell = refusal_of(assign_list(&mut store, &mut pool, &mut saves, &state, toks(1), &[97]));
-    let free = pool.free_nodes();
+    let heap = rt.alloc();
+    let mut entries = entries_of(heap, 1)?;
+    let mut stack = Stack::limited(&mut entries);
+    let saves = &mut stack;
+    let mut memory = Memory::new(heap, 1, 0)?;
+    let mut table = Table::new(store_of(heap, 1)?, pool_of(heap, 2)?, &mut memory);
+    let list = number_of(
+        table
+            .assign_list(saves, place(Class::Toks, 1), &b"ab".map(u16::from))
+            .err(),
+    )?;
+    table.assign(saves, place(Class::Count, 0), Mixed::Number(5))?;
+    let cell = number_of(
+        table
+            .assign_list(saves, place(Class::Toks, 1), &[u16::from(b'a')])
+            .err(),
+    )?;
+    let free = table.pool.free_nodes();
     println!(rt; "no list nodes: refused {list}, no cell: refused {cell}, {free} list nodes free")?;
-    print_registers(rt, &store, &pool)
+    table.print_registers(rt)
 }

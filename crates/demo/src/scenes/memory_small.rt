@@ -1,83 +1,75 @@
 //! Memory that is too small, and groups that are too deep.
-use crate::parts::{end, number, print_registers, refusal_of};
-use registers::assign::assign;
-use registers::group::{open_group, unwind};
-use registers::state::State;
-use save_stack::entry::Entry;
+ghost use Rattle.std.specs.Prelude.{◌≤◌};
+
+use crate::models::Small;
+use crate::refused::{Refused, number_of};
+use crate::table::{Memory, Table, entries_of};
 use save_stack::stack::{SaveStack, Stack};
 use stores::cell::Cell;
 use stores::flat::Flat;
 use tokens::group::GroupKind;
-use values::plain::{NoPool, Plain};
+use values::plain::{NoPool, PLAIN_COUNTS, Plain};
 
-/// How many groups were opened in one another, and why no more.
+/// How many groups were opened in one another, and why no more, if one more was wanted.
 #[derive(Clone, Copy)]
 struct Depth {
     opened: u16,
-    refusal: u8,
+    refused: Option<Refused>,
 }
 
-/// Opens groups in one another, as many as are wanted and can be, and unwinds them.
-fn deepen(
-    store: &mut Flat<Plain>,
-    pool: &mut NoPool,
-    saves: &mut SaveStack<Plain>,
-    state: &mut State,
-    out: &mut [u8],
-    wanted: u16,
-    opened: u16,
-) -> Depth {
+/// Opens groups in one another, as many as are wanted and can be, and unwinds them. A handle can't be let go, so each call keeps one.
+fn deepen(table: &mut Small, saves: &mut SaveStack<Plain>, wanted: u16) -> Depth
+    ensures { result.opened ≤ wanted }
+{
     if wanted == 0 {
-        return Depth { opened, refusal: 0 };
+        return Depth {
+            opened: 0,
+            refused: None,
+        };
     }
-    match open_group(saves, state, out, GroupKind::Simple, 0) {
-        Err(fault) => Depth {
-            opened,
-            refusal: fault.refusal().number(),
+    match table.open(saves, GroupKind::Simple, 0) {
+        Err(refused) => Depth {
+            opened: 0,
+            refused: Some(refused),
         },
         Ok(group) => {
-            let depth = deepen(
-                store,
-                pool,
-                saves,
-                state,
-                out,
-                wanted - 1,
-                opened.saturating_add(1),
-            );
-            unwind(store, pool, saves, state, out, group);
-            depth
+            let inner = deepen(table, saves, wanted - 1);
+            table.unwind(saves, group);
+            Depth {
+                opened: inner.opened + 1,
+                ..inner
+            }
         }
     }
 }
 
 /// One entry, which the group takes: the assignment in it has none. Then as many groups as the level allows.
 pub(crate) fn play(rt: &HostRuntime) -> anyhow::Result<()> {
-    let mut cells = [Cell {
-        value: number(0),
-        level: 1,
-    }; 256];
-    let mut entries = [Entry::<Plain>::Held(0); 1];
-    let mut words = [0u16; 16];
-    let mut out = [0u8; 100];
-    let mut store = Flat::new(&mut cells);
-    let mut pool = NoPool {};
-    let mut saves = Stack::limited(&mut entries);
-    let mut state = State::new(&mut words);
-    let group = open_group(&mut saves, &mut state, &mut out, GroupKind::Simple, 1);
-    let refused = refusal_of(assign(&mut store, &mut pool, &mut saves, &state, 1, number(7)));
-    end(
-        &mut store, &mut pool, &mut saves, &mut state, &mut out, group,
-    );
-    println!(rt; "no entry: refused {refused}")?;
-    print_registers(rt, &store, &pool)?;
-    let mut many = [Entry::<Plain>::Held(0); 400];
-    let mut deep = Stack::limited(&mut many);
-    let depth = deepen(
-        &mut store, &mut pool, &mut deep, &mut state, &mut out, 400, 0,
-    );
-    let opened = depth.opened;
-    let number = depth.refusal;
+    let mut cells = [Cell::blank(); PLAIN_COUNTS as usize];
+    let mut entries = entries_of(rt.alloc(), 1)?;
+    let mut stack = Stack::limited(&mut entries);
+    let saves = &mut stack;
+    let mut memory = Memory::new(rt.alloc(), 1, 100)?;
+    let mut table = Table::new(Flat::new(&mut cells), NoPool, &mut memory);
+    let group = table.open(saves, GroupKind::Simple, 1)?;
+    let assigned = table.assign(saves, 1, Plain::from(7));
+    table.end(saves, group)?;
+    let number = number_of(assigned.err())?;
+    println!(rt; "no entry: refused {number}")?;
+    table.print_registers(rt)?;
+    too_deep(rt)
+}
+
+/// Entries for 400 groups: more than the levels allow
+fn too_deep(rt: &HostRuntime) -> anyhow::Result<()> {
+    let mut cells = [Cell::blank(); PLAIN_COUNTS as usize];
+    let mut entries = entries_of(rt.alloc(), 400)?;
+    let mut stack = Stack::limited(&mut entries);
+    let saves = &mut stack;
+    let mut memory = Memory::new(rt.alloc(), 400, 100)?;
+    let mut table = Table::new(Flat::new(&mut cells), NoPool, &mut memory);
+    let Depth { opened, refused } = deepen(&mut table, saves, 400);
+    let number = number_of(refused)?;
     println!(rt; "{opened} groups: refused {number}")?;
     Ok(())
 }

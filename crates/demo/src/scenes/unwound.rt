@@ -1,60 +1,54 @@
 //! Groups of all four kinds are unwound at once, with the handle of the outermost.
-use crate::parts::{carried_out, end, number, print_registers, print_written};
-use registers::assign::assign;
-use registers::group::open_group;
-use registers::state::State;
-use save_stack::entry::Entry;
-use save_stack::stack::Stack;
+use crate::models::Small;
+use crate::refused::Refused;
+use crate::table::{Memory, Table, entries_of};
+use registers::handle::GroupHandle;
+use save_stack::stack::{SaveStack, Stack};
 use stores::cell::Cell;
 use stores::flat::Flat;
 use tokens::group::GroupKind;
-use values::plain::{NoPool, Plain};
+use values::plain::{NoPool, PLAIN_COUNTS, Plain};
+
+/// Opens a group, and assigns to `\count2` in it; if that is refused, the group is unwound again.
+fn enter(
+    table: &mut Small,
+    saves: &mut SaveStack<Plain>,
+    kind: GroupKind,
+    line: u16,
+    count: i32,
+) -> Result<GroupHandle, Refused> {
+    let group = table.open(saves, kind, line)?;
+    match table.assign(saves, 2, Plain::from(count)) {
+        Ok(()) => Ok(group),
+        Err(refused) => {
+            table.unwind(saves, group);
+            Err(refused)
+        }
+    }
+}
 
 /// `\count2=1 {\count2=2 \begingroup\count2=3 \hbox{\count2=4 \cell\count2=5 `, and all of it unwound
 pub(crate) fn play(rt: &HostRuntime) -> anyhow::Result<()> {
-    let mut cells = [Cell {
-        value: number(0),
-        level: 1,
-    }; 256];
-    let mut entries = [Entry::<Plain>::Held(0); 16];
-    let mut words = [0u16; 16];
-    let mut out = [0u8; 1024];
-    let mut store = Flat::new(&mut cells);
-    let mut pool = NoPool {};
-    let mut saves = Stack::limited(&mut entries);
-    let mut state = State::new(&mut words);
-    carried_out(assign(&mut store, &mut pool, &mut saves, &state, 2, number(1)))?;
-    let simple = open_group(&mut saves, &mut state, &mut out, GroupKind::Simple, 1);
-    let second = assign(&mut store, &mut pool, &mut saves, &state, 2, number(2));
-    let semi_simple = open_group(&mut saves, &mut state, &mut out, GroupKind::SemiSimple, 2);
-    let third = assign(&mut store, &mut pool, &mut saves, &state, 2, number(3));
-    let hbox = open_group(&mut saves, &mut state, &mut out, GroupKind::Hbox, 3);
-    let fourth = assign(&mut store, &mut pool, &mut saves, &state, 2, number(4));
-    let align = open_group(&mut saves, &mut state, &mut out, GroupKind::Align, 0);
-    let fifth = assign(&mut store, &mut pool, &mut saves, &state, 2, number(5));
-    let closed = end(
-        &mut store, &mut pool, &mut saves, &mut state, &mut out, simple,
-    );
+    let mut cells = [Cell::blank(); PLAIN_COUNTS as usize];
+    let mut entries = entries_of(rt.alloc(), 16)?;
+    let mut stack = Stack::limited(&mut entries);
+    let saves = &mut stack;
+    let mut memory = Memory::new(rt.alloc(), 16, 1024)?;
+    let mut table = Table::new(Flat::new(&mut cells), NoPool, &mut memory);
+    table.assign(saves, 2, Plain::from(1))?;
+    let simple = enter(&mut table, saves, GroupKind::Simple, 1, 2);
+    let semi_simple = enter(&mut table, saves, GroupKind::SemiSimple, 2, 3);
+    let hbox = enter(&mut table, saves, GroupKind::Hbox, 3, 4);
+    let align = enter(&mut table, saves, GroupKind::Align, 0, 5);
+    let first = simple.map(|group| table.unwind(saves, group));
     // The groups of the inner handles are gone: unwinding with these closes nothing.
-    let second_closed = end(
-        &mut store,
-        &mut pool,
-        &mut saves,
-        &mut state,
-        &mut out,
-        semi_simple,
-    );
-    let third_closed = end(
-        &mut store, &mut pool, &mut saves, &mut state, &mut out, hbox,
-    );
-    let fourth_closed = end(
-        &mut store, &mut pool, &mut saves, &mut state, &mut out, align,
-    );
-    carried_out(second)?;
-    carried_out(third)?;
-    carried_out(fourth)?;
-    carried_out(fifth)?;
-    print_written(rt, &out, &state.trace)?;
-    println!(rt; "unwound {closed}, then {second_closed}, {third_closed}, {fourth_closed}")?;
-    print_registers(rt, &store, &pool)
+    let second = semi_simple.map(|group| table.unwind(saves, group));
+    let third = hbox.map(|group| table.unwind(saves, group));
+    let fourth = align.map(|group| table.unwind(saves, group));
+    table.print_trace(rt)?;
+    println!(rt;
+        "unwound {}, then {}, {}, {}",
+        first?, second?, third?, fourth?
+    )?;
+    table.print_registers(rt)
 }

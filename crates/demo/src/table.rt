@@ -1,0 +1,192 @@
+//! A table to play with, for every store and every kind of value.
+use crate::refused::Refused;
+use crate::report::{print_registers, print_written};
+use registers::assign::{assign, assign_list};
+use registers::group::{close_group, open_group, save_for_after, unwind};
+use registers::handle::{GroupHandle, StillOpen};
+use registers::state::State;
+use save_stack::entry::Entry;
+use save_stack::stack::SaveStack;
+use std::alloc::{AllocError, Global};
+use stores::store::Store;
+use tokens::group::GroupKind;
+use values::value::Value;
+
+/// Memory for a save stack of so many entries.
+pub(crate) fn entries_of<V: Copy>(
+    heap: Global,
+    entries: usize,
+) -> Result<Vec<Entry<V>>, AllocError> {
+    Ok(vec![in heap; Entry::Held(0); entries]?)
+}
+
+/// Memory for what a table is besides its store, its pool and its save stack: for pending tokens, and for the trace.
+#[derive(Drop)]
+pub struct Memory {
+    words: Vec<u16>,
+    trace: Vec<u8>,
+}
+
+impl Memory {
+    /// Memory for so many tokens, and for so many bytes of trace.
+    pub(crate) fn new(heap: Global, words: usize, trace: usize) -> Result<Self, AllocError> {
+        Ok(Memory {
+            words: vec![in heap; 0; words]?,
+            trace: vec![in heap; 0; trace]?,
+        })
+    }
+}
+
+/// A table but for its save stack, which is lent to each call beside it, with the output of the trace.
+// Kept: each scene hands over its memory itself, as a user of the library does.
+#[derive(Drop)]
+pub struct Table<'a, S, V: Value>
+where
+    V::Pool: Drop,
+{
+    pub store: S,
+    pub pool: V::Pool,
+    pub state: State<'a>,
+    out: &'a mut [u8],
+}
+
+impl<'a, S: Store<V> + Drop, V: Value> Table<'a, S, V>
+where
+    V::Pool: Drop,
+{
+    /// A new table over the store, the pool and the memory.
+    pub(crate) fn new(store: S, pool: V::Pool, memory: &'a mut Memory) -> Self {
+        let state = State::new(&mut memory.words);
+        let out = &mut memory.trace;
+        Table {
+            store,
+            pool,
+            state,
+            out,
+        }
+    }
+
+    /// What a register holds.
+    pub(crate) fn held(&self, place: u32) -> V {
+        self.store.cell(place).map_or(V::zero(), |cell| cell.value)
+    }
+
+    /// Assigns the value until the current group closes.
+    pub(crate) fn assign(
+        &mut self,
+        saves: &mut SaveStack<V>,
+        place: u32,
+        value: V,
+    ) -> Result<(), Refused> {
+        assign(
+            &mut self.store,
+            &mut self.pool,
+            saves,
+            &self.state,
+            place,
+            value,
+        )?;
+        Ok(())
+    }
+
+    /// Makes a list of the tokens and assigns it until the current group closes.
+    pub(crate) fn assign_list(
+        &mut self,
+        saves: &mut SaveStack<V>,
+        place: u32,
+        list: &[u16],
+    ) -> Result<(), Refused> {
+        assign_list(
+            &mut self.store,
+            &mut self.pool,
+            saves,
+            &self.state,
+            place,
+            list,
+        )?;
+        Ok(())
+    }
+
+    /// Holds a token back until the current group closes.
+    pub(crate) fn hold(&mut self, saves: &mut SaveStack<V>, code: u16) -> Result<(), Refused> {
+        save_for_after(saves, &self.state, code)?;
+        Ok(())
+    }
+
+    /// Opens a group.
+    pub(crate) fn open(
+        &mut self,
+        saves: &mut SaveStack<V>,
+        kind: GroupKind,
+        line: u16,
+    ) -> Result<GroupHandle, Refused> {
+        Ok(open_group(saves, &mut self.state, self.out, kind, line)?)
+    }
+
+    /// Closes the group; a refused close gives its handle back.
+    pub(crate) fn close(
+        &mut self,
+        saves: &mut SaveStack<V>,
+        group: GroupHandle,
+    ) -> Result<(), StillOpen> {
+        close_group(
+            &mut self.store,
+            &mut self.pool,
+            saves,
+            &mut self.state,
+            self.out,
+            group,
+        )
+    }
+
+    /// Closes the group and those that are open in it: how many.
+    pub(crate) fn unwind(&mut self, saves: &mut SaveStack<V>, group: GroupHandle) -> u8 {
+        unwind(
+            &mut self.store,
+            &mut self.pool,
+            saves,
+            &mut self.state,
+            self.out,
+            group,
+        )
+    }
+
+    /// Closes the group. If that is refused it is unwound, since its handle must not be let go.
+    pub(crate) fn end(
+        &mut self,
+        saves: &mut SaveStack<V>,
+        group: GroupHandle,
+    ) -> Result<(), Refused> {
+        let Err(StillOpen { fault, handle }) = self.close(saves, group) else {
+            return Ok(());
+        };
+        self.unwind(saves, handle);
+        Err(Refused::from(fault))
+    }
+
+    /// Opens a group, works in it, and closes it.
+    pub(crate) fn in_group<F: FnOnce(&mut Self, &mut SaveStack<V>) -> Result<(), Refused>>(
+        &mut self,
+        saves: &mut SaveStack<V>,
+        kind: GroupKind,
+        line: u16,
+        work: F,
+    ) -> Result<(), Refused>
+        requires { F.IsAlwaysCallable work }
+    {
+        let group = self.open(saves, kind, line)?;
+        let worked = work(self, saves);
+        self.end(saves, group)?;
+        worked
+    }
+
+    /// Prints what is written of the trace.
+    pub(crate) fn print_trace(&self, rt: &HostRuntime) -> anyhow::Result<()> {
+        print_written(rt, self.out, &self.state.trace)
+    }
+
+    /// Prints every filled register.
+    pub(crate) fn print_registers(&self, rt: &HostRuntime) -> anyhow::Result<()> {
+        print_registers(rt, &self.store, &self.pool)
+    }
+}
