@@ -4,9 +4,10 @@ use engine::target::Scope;
 use std::alloc::{AllocError, Global};
 use tokens::code::is_code;
 use tokens::group::GroupKind;
+use values::plain::PLAIN_COUNTS;
 
 /// The numbers of all count registers of the small model.
-pub type Numbers = [i32; 256];
+pub type Numbers = [i32; PLAIN_COUNTS as usize];
 
 /// A group that is open: its kind, and the numbers as they were when it was opened, or as global assignments left them.
 #[derive(Clone, Copy)]
@@ -33,7 +34,7 @@ impl Judge {
     /// Outside all groups, with every number 0.
     fn new(heap: Global) -> Judge {
         Judge {
-            numbers: [0; 256],
+            numbers: [0; PLAIN_COUNTS as usize],
             outer: Vec::new(heap),
         }
     }

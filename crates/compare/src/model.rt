@@ -2,7 +2,7 @@
 use mixed::mixed::Mixed;
 use std::alloc::Global;
 use token_pool::pool::TokenPool;
-use values::plain::{NoPool, Plain};
+use values::plain::{NoPool, PLAIN_COUNTS, Plain};
 use values::value::Value;
 
 /// A kind of value, with what a table of its model needs so that its count registers can be played with.
@@ -18,7 +18,7 @@ pub trait Model: Value {
 }
 
 impl Model for Plain {
-    const REACH: u32 = 256;
+    const REACH: u32 = PLAIN_COUNTS;
 
     fn place(register: u8) -> u32 {
         u32::from(register)
@@ -30,7 +30,7 @@ impl Model for Plain {
 }
 
 impl Model for Mixed {
-    const REACH: u32 = 1024;
+    const REACH: u32 = 4 * PLAIN_COUNTS;
 
     fn place(register: u8) -> u32 {
         4 * u32::from(register)

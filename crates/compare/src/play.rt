@@ -1,5 +1,4 @@
 //! A sequence of calls on a table, whatever its store and its kind of value.
-use crate::judge::Numbers;
 use crate::model::Model;
 use crate::script::Step;
 use engine::assign::assign;
@@ -12,6 +11,7 @@ use save_stack::stack::{SaveStack, Stack};
 use std::alloc::{AllocError, Global};
 use std::array;
 use stores::store::Store;
+use values::plain::PLAIN_COUNTS;
 use values::scalar::Scalar;
 
 /// The room of each save stack: enough that no call is refused for want of it.
@@ -27,7 +27,7 @@ const TRACE: usize = 8192;
 #[derive(PartialEq, Eq, Drop)]
 pub struct Outcome {
     pub carried_out: usize,
-    pub numbers: Numbers,
+    pub numbers: [Option<i32>; PLAIN_COUNTS as usize],
     pub trace: Vec<u8>,
     pub lost: u32,
 }
@@ -84,15 +84,13 @@ where
         steps.iter().filter(|step| self.work(saves, **step)).count()
     }
 
-    /// The number that a register reads as; 0 if it reads as none.
-    fn read(&self, register: u8) -> i32 {
+    /// The number that a register reads as, if it reads as one.
+    fn read(&self, register: u8) -> Option<i32> {
         let place = V::place(register);
-        let Some(cell) = self.store.cell(place) else {
-            return 0;
-        };
+        let cell = self.store.cell(place)?;
         match cell.value.scalar(&self.pool, place) {
-            Some(Scalar::Number(number)) => number,
-            _ => 0,
+            Some(Scalar::Number(number)) => Some(number),
+            _ => None,
         }
     }
 }

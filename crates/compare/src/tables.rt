@@ -43,7 +43,7 @@ pub(crate) fn agree(heap: Global, dice: &mut Dice, calls: usize) -> anyhow::Resu
         "the judge carries out other calls"
     );
     ensure!(
-        first.numbers == verdict.numbers,
+        first.numbers == verdict.numbers.map(Some),
         "the judge reads other numbers"
     );
     ensure!(first.lost == 0, "a trace does not fit");

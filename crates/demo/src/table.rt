@@ -20,6 +20,7 @@ pub(crate) fn entries_of<V: Copy>(
     Ok(vec![in heap; Entry::Held(0); entries]?)
 }
 
+// Kept: each scene makes its memory and hands it over in lines of its own, as a user of the library does; what makes a table of it is `Table::new`.
 /// Memory for what a table is besides its store, its pool and its save stack: for pending tokens, and for the trace.
 #[derive(Drop)]
 pub struct Memory {
@@ -38,7 +39,6 @@ impl Memory {
 }
 
 /// A table but for its save stack, which is lent to each call beside it, with the output of the trace.
-// Kept: each scene hands over its memory itself, as a user of the library does.
 #[derive(Drop)]
 pub struct Table<'a, S, V: Value>
 where

@@ -105,6 +105,7 @@ pub fn assign<S: Store<V>, V: Value>(
 }
 
 /// Makes a list and assigns it, at the current level or globally. Which list of the pool it becomes is left open.
+// Kept: beside `assign`, which has its value at hand: this one makes it between the checks and the change, and its contract leaves a choice open.
 pub fn assign_list<S: Store<V>, V: Value>(
     store: &mut S,
     pool: &mut V::Pool,

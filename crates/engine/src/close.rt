@@ -24,7 +24,7 @@ use trace::groups::{GroupEvent, group_line};
 use values::value::Value;
 
 /// What becomes of the tokens that a group held back.
-// Kept: an enum and a test, and no closure that is handed in: the definition of a close tells the two apart in the same way.
+// Kept: an enum and a test. A closure that is handed in is no plainer: its clauses would say of pending what the definition of a close says by the same two cases.
 #[derive(Clone, Copy, PartialEq, Eq)]
 pub(crate) enum HeldTokens {
     /// They go onto pending.
@@ -83,6 +83,7 @@ fn pop_group<S: Store<V>, V: Value>(
 }
 
 /// Closes the current group, if it is of the kind and level; the tokens that it held back go onto pending.
+// Kept: kind and level, and no handle: the engine knows of none.
 pub fn close_group<S: Store<V>, V: Value>(
     store: &mut S,
     pool: &mut V::Pool,

@@ -6,6 +6,7 @@ use tokens::code::are_codes;
 use values::value::Value;
 
 /// What an assignment asks: is what is assigned within its bounds, does it fit the place, are the nodes of a new list free, and is it zero?
+// Kept: four answers side by side, and no first refusal among them: the store's and the save stack's checks come between.
 #[derive(Clone, Copy)]
 pub struct Demand {
     pub bounded: bool,

@@ -26,7 +26,7 @@ pub struct EngineFault {
 }
 
 /// A store's fault with the group in which it arose.
-// Kept: a type of its own for the way up, so that `?` raises the one fault to the other by `From`.
+// Kept: a type of its own for the way up, so that `?` raises the one fault to the other by `From` (a form that the library keeps).
 #[derive(Clone, Copy, PartialEq, Eq, Debug)]
 pub struct InGroup {
     pub fault: StoreFault,

@@ -38,6 +38,7 @@ pub fn restore<S: Store<V>, V: Value>(
     let Some(present) = store.cell(place) else {
         return;
     };
+    // Kept: two branches, each with the whole of what happens. To choose event and value first would tear each apart.
     if present.level == 1 {
         saved.value.drop_use(pool);
         register_line(

@@ -86,7 +86,7 @@ pub fn unwind<S: Store<V>, V: Value>(
 }
 
 /// Holds a token back until the current group closes; outside all groups it does nothing.
-// Kept: the face has each call, this one too, though the engine's takes the same.
+// Kept: a call of its own and no `pub use` of the engine's: its contract and its must-fail edit stand at the face, as those of the other calls.
 pub fn save_for_after<V: Value>(
     saves: &mut SaveStack<V>,
     state: &State,

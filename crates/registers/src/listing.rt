@@ -9,7 +9,7 @@ use tokens::refusal::Refusal;
 use values::value::Value;
 
 /// Writes every filled register on a line of its own, in order of place. It stops at the first line that does not fit.
-// Kept: the face has the listing too, though the engine's takes the same.
+// Kept: a call of its own and no `pub use` of the engine's: its contract and its must-fail edit stand at the face, as those of the other calls.
 pub fn list_registers<S: Store<V>, V: Value>(
     store: &S,
     pool: &V::Pool,

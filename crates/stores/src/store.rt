@@ -26,6 +26,7 @@ pub trait Store<V: Value> {
         ensures { result ≡ cell_at (model self.now) place };
 
     /// Whether a cell that is blank, or not, may be written at the place: told without counting.
+    // Kept: whether it is blank is all that the answer depends on; a caller that asks has no cell yet.
     fn may_write(&self, place: u32, blank: bool) -> Result<(), StoreFault>
         ensures { result ≡ verdict V.Value.ops.is_zero (model self.now) place blank };
 

@@ -24,6 +24,7 @@ impl FreeNodes {
         ensures owners { (j : ℕ) → j < length nodes.new → (at nodes.new j).owner ≡ top_nodes }
     {
         let mut free = FreeNodes { first: 0, count: 0 };
+        // Kept: a `for` over indices, since each turn lends the whole row on to `push`.
         for i in 0..nodes.len() as u32 {
             free.push(nodes, i);
         }
@@ -122,6 +123,7 @@ impl FreeNodes {
         ensures gone { 0 < count → (at nodes.new list).owner ≡ top_nodes }
     {
         let mut i = list;
+        // Kept: a `for` that counts, since the chain is read from the nodes that each turn writes.
         for _ in 0..count {
             let next = nodes[i as usize].next;
             self.push(nodes, i);

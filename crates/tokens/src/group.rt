@@ -27,6 +27,7 @@ pub enum Closer {
 }
 
 /// A group: its kind, and the line at which it was opened, or 0.
+// Kept: 0 for no line, and no Option: a group is opened at a line from 0 on, and of 0 the trace prints nothing.
 #[derive(Clone, Copy, PartialEq, Eq, Debug)]
 pub struct Group {
     pub kind: GroupKind,
@@ -40,7 +41,7 @@ pub struct ClosedBy {
 }
 
 /// For each kind of group, in their order, what closes it.
-// Kept: a table, and no `match`: which closer closes what stands in one place, row by row.
+// Kept: a table, and no `match`: which closer closes what stands in one place, row by row (a form that the library keeps).
 pub const CLOSED_BY: [ClosedBy; 4] = [
     ClosedBy {
         closers: [true, false, false],

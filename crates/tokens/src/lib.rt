@@ -1,4 +1,4 @@
-//! Words, codes, kinds of group, refusals and limits: each name and each number has its one home here.
+//! Words, codes, kinds of group, refusals and limits: each name and each number that crates share has its one home here.
 #![tactic(auto)]
 
 pub mod class;

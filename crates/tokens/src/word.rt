@@ -22,7 +22,7 @@ pub enum ControlWord {
 }
 
 /// The letters of the words, in the order of their codes.
-// Kept: a table beside the enum, since a word's letters are looked up by its code.
+// Kept: a table beside the enum. A `match` over codes would write each code and each word once more.
 pub const WORDS: [&[u8]; 12] = [
     b"begingroup",
     b"endgroup",
@@ -54,6 +54,7 @@ pub fn word(code: u16) -> &'static [u8]
     let Some(place) = code.checked_sub(FIRST_WORD) else {
         return b"";
     };
+    // Kept: a `match`. After `copied` and `unwrap_or`, or `map_or`, the check no longer finds the letters.
     match WORDS.get(usize::from(place)) {
         Some(letters) => letters,
         None => b"",

@@ -41,6 +41,7 @@ impl GroupEvent {
 }
 
 /// `{entering simple group (level 1) at line 2}` or `{leaving simple group (level 1) entered at line 2}`, where the level inside the group is 2; whether the line stands.
+// Kept: the frame of a line stands here and in `registers`. What is written in it takes other parameters there, and a closure for that would have to say what it writes.
 pub fn group_line(
     writer: &mut Writer,
     out: &mut [u8],

@@ -5,7 +5,7 @@ ghost use Rattle.trace.specs.Ends.{ended};
 use output::writer::Writer;
 
 /// A line that is being written: unless it was completed, its end puts the mark back and counts it as lost.
-// Kept: the flag says only whether the line was completed, and the drop reads it; no value stands beside it.
+// Kept: a flag beside the start, which is read only where the line is not done. An Option of the start, emptied to complete the line, says the same in no fewer words.
 pub struct Line<'w> {
     pub writer: &'w mut Writer,
     pub start: usize,

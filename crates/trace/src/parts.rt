@@ -37,7 +37,7 @@ pub fn write_register<V: Value>(
     ensures { Added (V.Value.ops.shown value.now (V.Value.meaning pool.now) place)
         (out_of writer.old out.old) (out_of writer.new out.new) result }
 {
-    // Kept: the rest of the output is lent on to the value's printer, which knows of no writer.
+    // Kept: the rest of the output is lent on to the value's printer, which knows of no writer (a form that the library keeps).
     let start = writer.mark.min(out.len());
     let put = value.print(pool, place, &mut out[start..]);
     writer.mark += put.size;

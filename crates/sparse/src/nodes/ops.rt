@@ -17,6 +17,7 @@ use stores::cell::Cell;
 const MAX_NODES: usize = 65_535;
 
 /// A free node of the rank, with the next one behind it; what it held is left in it.
+// Kept: a free node is told by a place past all others, and its next stands for its left branch: one record for all nodes, since the row is handed over with as many as there are.
 fn freed<V: Copy>(cell: Cell<V>, rank: u32, next: u32) -> Tip<V>
     requires { rank ≤ top_nodes }
     ensures place { result.node.place ≡ top_reach + rank }

@@ -34,11 +34,7 @@ impl<V: Value> Store<V> for Sparse<V> {
     }
 
     fn cell(&self, place: u32) -> Option<Cell<V>> {
-        if place < self.nodes.reach {
-            Some(self.read(place))
-        } else {
-            None
-        }
+        (place < self.nodes.reach).then(|| self.read(place))
     }
 
     fn may_write(&self, place: u32, blank: bool) -> Result<(), StoreFault> {

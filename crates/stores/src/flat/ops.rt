@@ -58,6 +58,7 @@ impl<'a, V: Value> Store<V> for Flat<'a, V> {
     }
 
     fn next_filled(&self, from: u32) -> Option<u32> {
+        // Kept: a `for` over places. As a `find` over them its proof didn't close.
         for place in from..self.reach() {
             let cell = self.cells[place as usize];
             if !cell.is_blank() {
