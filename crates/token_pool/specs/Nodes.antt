@@ -1,8 +1,9 @@
 -- What the nodes of a pool hold: chains of nodes, each node with its owner and how many come after it.
-use Rattle.std.specs.Prelude.{◌≡◌, ℕ, zero, suc, ◌+◌, ◌<◌, ◌≤◌, cond, ◌⊎◌, List, [], ◌∷◌, length, ◌==◌, slice_index_or}
+use Rattle.std.specs.Prelude.{◌≡◌, ℕ, zero, suc, ◌+◌, ◌<◌, ◌≤◌, Bool, cond, ◌&&◌, ◌⊎◌, List, [], ◌∷◌, length, ◌==◌, nat_lt, slice_index_or}
 use Rattle.token_pool.specs.Pools.{PoolModel}
 use Rattle.token_pool.specs.declared.node.Node.{Node}
 use Rattle.token_pool.specs.declared.chain.FreeNodes.{FreeNodes}
+use Rattle.token_pool.specs.declared.cursor.Cursor.{Cursor}
 
 -- the most nodes that a pool uses; no index is that large, so it also stands for the owner of a free node
 abbrev pub top_nodes : ℕ
@@ -73,3 +74,16 @@ freed f = record { owner = top_nodes; left = f.count; next = f.first; token = 0;
 -- a node with another reference count
 abbrev pub recounted : Node → ℕ → Node
 recounted n u = record n { count = u }
+
+-- the node at i is of the owner o, and k come after it
+abbrev pub belongs : List Node → ℕ → ℕ → ℕ → Bool
+belongs ns o i k = nat_lt i (length ns) && ((at ns i).owner == o && (at ns i).left == k)
+
+-- the tokens of k nodes of the owner o from i on, as far as there are such nodes
+abbrev pub rest_from : List Node → ℕ → ℕ → ℕ → List ℕ
+rest_from ns o i zero = []
+rest_from ns o i (suc k) = cond (belongs ns o i k) ((at ns i).token ∷ rest_from ns o (at ns i).next k) []
+
+-- the tokens that are still to be read at a cursor
+abbrev pub rest_at : List Node → Cursor → List ℕ
+rest_at ns c = rest_from ns c.list c.node c.left

@@ -2,6 +2,7 @@
 #![tactic(auto)]
 
 mod chain;
+pub mod cursor;
 pub mod iter;
 pub mod node;
 pub mod pool;

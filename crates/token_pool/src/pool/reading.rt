@@ -3,8 +3,10 @@ ghost use Rattle.std.specs.Prelude.{◌≡◌, ℕ, ◌+◌, ◌≤◌, false, [
 ghost use Rattle.token_pool.specs.Pools.{there, nodes_taken};
 ghost use Rattle.tokens.specs.Copies.{fitted, copied};
 ghost use Rattle.token_pool.specs.Nodes.{Chain, tokens_from};
-ghost use Rattle.token_pool.specs.Meanings.{pool_of};
+ghost use Rattle.token_pool.specs.Meanings.{pool_of, rest_of};
+ghost use Rattle.token_pool.specs.Readings.{Reads};
 
+use crate::cursor::{self, Cursor, Token};
 use crate::iter::Tokens;
 use crate::node::Node;
 use crate::pool::TokenPool;
@@ -72,6 +74,24 @@ impl TokenPool {
             next: head.next,
             left: head.left,
         }
+    }
+
+    /// A cursor before the first token of a list, and at the end if the list is not there.
+    #[tactic(auto, using(crate::proofs::Cursors::rest_all), unfolding(crate::specs::Meanings::pool_of, crate::specs::Meanings::rest_of))]
+    pub fn first(&self, list: u32) -> Cursor
+        ensures { rest_of self.now result ≡ (pool_of self.now).list list }
+    {
+        let head = self.head(list).unwrap_or(Node::EMPTY);
+        let node = head.next;
+        let left = head.left;
+        Cursor { list, node, left }
+    }
+
+    /// The token that a cursor stands before, with a cursor after it; None at the end. A cursor may be kept while the pool changes: it reads what its nodes then hold for its list.
+    pub fn token(&self, cursor: Cursor) -> Option<Token>
+        ensures { Reads (rest_of self.now) cursor result }
+    {
+        cursor::read(&self.nodes, cursor)
     }
 
     /// Copies the tokens of a list to the front of the words; false, and nothing, if they do not fit.
