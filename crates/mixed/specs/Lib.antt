@@ -1,3 +1,4 @@
 pub mod Texts
 pub mod Mixeds
 pub mod MixedLaws
+pub mod Counts
