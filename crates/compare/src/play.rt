@@ -23,12 +23,13 @@ const WORDS: usize = 256;
 /// The room for the trace.
 const TRACE: usize = 8192;
 
-/// What a sequence of calls comes to: how many were carried out, what the registers read as, the trace, and how many of its lines were lost.
+/// What a sequence of calls comes to: how many were carried out, what the registers read as, the whole room of the trace, how far it was written, and how many of its lines were lost.
 #[derive(PartialEq, Eq, Drop)]
 pub struct Outcome {
     pub carried_out: usize,
     pub numbers: [Option<i32>; PLAIN_COUNTS as usize],
     pub trace: Vec<u8>,
+    pub mark: usize,
     pub lost: u32,
 }
 
@@ -118,12 +119,11 @@ where
     let carried_out = table.work_all(&mut saves, steps);
     let numbers = array::from_fn(|register| table.read(register as u8));
     let Table { state, out, .. } = table;
-    let mut trace = out;
-    trace.truncate(state.trace.mark);
     Ok(Outcome {
         carried_out,
         numbers,
-        trace,
+        trace: out,
+        mark: state.trace.mark,
         lost: state.trace.lost,
     })
 }

@@ -5,38 +5,10 @@ use registers::assign::{assign, assign_list};
 use registers::group::{close_group, open_group, save_for_after, unwind};
 use registers::handle::{GroupHandle, StillOpen};
 use registers::state::State;
-use save_stack::entry::Entry;
 use save_stack::stack::SaveStack;
-use std::alloc::{AllocError, Global};
 use stores::store::Store;
 use tokens::group::GroupKind;
 use values::value::Value;
-
-/// Memory for a save stack of so many entries.
-pub(crate) fn entries_of<V: Copy>(
-    heap: Global,
-    entries: usize,
-) -> Result<Vec<Entry<V>>, AllocError> {
-    Ok(vec![in heap; Entry::Held(0); entries]?)
-}
-
-// Kept: each scene makes its memory and hands it over in lines of its own, as a user of the library does; what makes a table of it is `Table::new`.
-/// Memory for what a table is besides its store, its pool and its save stack: for pending tokens, and for the trace.
-#[derive(Drop)]
-pub struct Memory {
-    words: Vec<u16>,
-    trace: Vec<u8>,
-}
-
-impl Memory {
-    /// Memory for so many tokens, and for so many bytes of trace.
-    pub(crate) fn new(heap: Global, words: usize, trace: usize) -> Result<Self, AllocError> {
-        Ok(Memory {
-            words: vec![in heap; 0; words]?,
-            trace: vec![in heap; 0; trace]?,
-        })
-    }
-}
 
 /// A table but for its save stack, which is lent to each call beside it, with the output of the trace.
 #[derive(Drop)]
@@ -54,10 +26,10 @@ impl<'a, S: Store<V> + Drop, V: Value> Table<'a, S, V>
 where
     V::Pool: Drop,
 {
-    /// A new table over the store, the pool and the memory.
-    pub(crate) fn new(store: S, pool: V::Pool, memory: &'a mut Memory) -> Self {
-        let state = State::new(&mut memory.words);
-        let out = &mut memory.trace;
+    // Kept: each scene makes its memory and hands it over in lines of its own, as a user of the library does.
+    /// A new table over the store and the pool, with words for pending tokens and an output for the trace.
+    pub(crate) fn new(store: S, pool: V::Pool, words: &'a mut [u16], out: &'a mut [u8]) -> Self {
+        let state = State::new(words);
         Table {
             store,
             pool,

@@ -33,6 +33,7 @@ pub fn open_group<V: Value>(
         ≡ tried V.Value.ops (opens group) (table_of s m state.old.nesting (stack_of saves.old) (stack_of state.old.pending)) }
     ensures traced { (s : StoreModel V) (m : V.Value.Meaning) → out_of state.new.trace out.new
         ≡ told (out_of state.old.trace out.old) (lines_of V.Value.ops (opens group) (table_of s m state.old.nesting (stack_of saves.old) (stack_of state.old.pending))) }
+    ensures pending { state.new.pending ≡ state.old.pending }
 {
     let nesting = state.nesting;
     if nesting.level >= MAX_LEVEL {

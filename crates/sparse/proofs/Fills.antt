@@ -7,6 +7,10 @@ use Rattle.stores.specs.declared.cell.Cell.{Cell}
 use Rattle.sparse.specs.Listing.{all_filled, found, first_from, ins, del, over}
 use Rattle.sparse.specs.declared.node.Node.{Node}
 
+-- a cell is blank or not
+pub clash : {A : Type 0} {b : Bool} → false ≡ b → true ≡ b → A
+clash e f = cc
+
 module _ {V : Type 0} (is_zero : V → Bool) where
   behind_filled : (x : Node V) (xs : List (Node V)) → all_filled is_zero (x ∷ xs) ≡ true → all_filled is_zero xs ≡ true
   behind_filled x xs h = (and_parts _ _ h).1

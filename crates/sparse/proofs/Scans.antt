@@ -1,13 +1,12 @@
 -- The first node at or past a place, and the least filled place of a store.
-use Rattle.std.proofs.Common.{◌≡◌, ℕ, zero, suc, ◌+◌, ◌-◌, ◌<◌, ◌≤◌, max, Bool, true, false, cond, leb, List, [], ◌∷◌, Some, None, Option, vec_items, sym, refl, ap, ◌∙◌, subst, arith, eq-eqb, ne_eqb, leb-false, leb-true}
+use Rattle.std.proofs.Common.{◌≡◌, ℕ, zero, suc, ◌+◌, ◌-◌, ◌<◌, ◌≤◌, max, Bool, true, false, cond, leb, List, [], ◌∷◌, Some, None, vec_items, sym, refl, ap, ◌∙◌, subst, arith, eq-eqb, ne_eqb, leb-false, leb-true}
 use Rattle.std.proofs.lemmas.Bool.Decides.{nat_tests}
-use Rattle.std.specs.Option.{option_map}
 use Rattle.values.specs.Ops.{Ops}
 use Rattle.values.specs.Laws.{Laws}
 use Rattle.stores.specs.Cells.{cell, is_blank}
 use Rattle.stores.specs.Stores.{scan, next_filled}
 use Rattle.stores.specs.declared.cell.Cell.{Cell}
-use Rattle.sparse.specs.Listing.{all_filled, Ascends, look, first_from}
+use Rattle.sparse.specs.Listing.{Ascends, look, first_from}
 use Rattle.sparse.specs.Held.{held}
 use Rattle.sparse.specs.Sparses.{noded}
 use Rattle.sparse.specs.declared.node.Node.{Node}
@@ -15,7 +14,6 @@ use Rattle.sparse.specs.declared.nodes.Nodes.{Nodes}
 use Rattle.sparse.proofs.Order.{asc_ends}
 use Rattle.sparse.proofs.Frames.{tree_asc}
 use Rattle.sparse.proofs.Chains.{tree_from}
-use Rattle.sparse.proofs.Fills.{first_filled}
 use Rattle.sparse.proofs.Looks.{look_high}
 use Rattle.sparse.proofs.Writes.{z_blank}
 
@@ -85,16 +83,18 @@ module _ {V : Type 0} (z : Cell V) (p hi : ℕ) where
 
 -- the same as the search for a filled cell
 module _ {V M : Type 0} (k : Ops V M) (law : Laws k) (r s p : ℕ) (xs : List (Node V)) (asc : Ascends 0 r xs) where
-  no_next : first_from p xs ≡ None → next_filled k.is_zero (noded k r xs s) p ≡ None
+  pub no_next : first_from p xs ≡ None → next_filled k.is_zero (noded k r xs s) p ≡ None
   no_next h = scan_none k.is_zero (look (cell k.zero 1) xs) p (r - p) (λ q l. ap (is_blank k.is_zero) (past_last (cell k.zero 1) p r xs q l h) ∙ z_blank k law)
 
   module _ (x : Node V) (h : first_from p xs ≡ Some x) where
     is : First (cell k.zero 1) p r xs x
     is = first_is (cell k.zero 1) p r 0 xs x asc h
 
-    -- where the first node stands, of those of which none is blank
-    next_here : all_filled k.is_zero xs ≡ true → next_filled k.is_zero (noded k r xs s) p ≡ Some x.place
-    next_here full =
+    pub next_near : (p ≤ x.place) × (x.place < r)
+    next_near = (is.past, is.near)
+
+    reached : next_filled k.is_zero (noded k r xs s) p ≡ cond (is_blank k.is_zero x.cell) (scan k.is_zero (look (cell k.zero 1) xs) (x.place + 1) (r - (x.place + 1))) (Some x.place)
+    reached =
         let f = is in
         let a = f.past in
         let b = f.near in
@@ -103,12 +103,10 @@ module _ {V M : Type 0} (k : Ops V M) (law : Laws k) (r s p : ℕ) (xs : List (N
         scan_skip k.is_zero (look (cell k.zero 1) xs) p (u - p) (suc (r - (u + 1))) (r - p) (omega arith) (λ q l m. ap (is_blank k.is_zero) (f.none q l (omega arith)) ∙ z_blank k law)
         ∙ ap (λ n. scan k.is_zero (look (cell k.zero 1) xs) n (suc (r - (u + 1)))) at
         ∙ ap (λ c. cond (is_blank k.is_zero c) (scan k.is_zero (look (cell k.zero 1) xs) (u + 1) (r - (u + 1))) (Some u)) f.here
-        ∙ ap (λ b. cond b (scan k.is_zero (look (cell k.zero 1) xs) (u + 1) (r - (u + 1))) (Some u)) (sym (first_filled k.is_zero p xs x full h))
 
-  pub next_is : all_filled k.is_zero xs ≡ true → (o : Option (Node V)) → first_from p xs ≡ o → option_map (λ x. x.place) o ≡ next_filled k.is_zero (noded k r xs s) p
-  next_is full None h = sym (no_next h)
-  next_is full (Some x) h = sym (next_here x h full)
+    -- where the first node stands, and what is looked for past it if it holds a blank cell
+    pub next_here : false ≡ is_blank k.is_zero x.cell → Some x.place ≡ next_filled k.is_zero (noded k r xs s) p
+    next_here e = sym (reached ∙ ap (λ b. cond b (scan k.is_zero (look (cell k.zero 1) xs) (x.place + 1) (r - (x.place + 1))) (Some x.place)) (sym e))
 
-  pub next_near : (t : ℕ) → r ≤ t → (o : Option (Node V)) → first_from p xs ≡ o → elim (option_map (λ x. x.place) o) as (λ n. Type 0) [ None ↦ Unit {0} | Some q ↦ q < t ]
-  next_near t l None h = tt
-  next_near t l (Some x) h = let n = (is x h).near in omega arith
+    pub next_on : true ≡ is_blank k.is_zero x.cell → next_filled k.is_zero (noded k r xs s) (x.place + 1) ≡ next_filled k.is_zero (noded k r xs s) p
+    next_on e = sym (reached ∙ ap (λ b. cond b (scan k.is_zero (look (cell k.zero 1) xs) (x.place + 1) (r - (x.place + 1))) (Some x.place)) (sym e))

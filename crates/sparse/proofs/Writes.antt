@@ -1,5 +1,5 @@
 -- What a change of nodes is as a write to a store.
-use Rattle.std.proofs.Common.{◌≡◌, ℕ, ◌+◌, ◌-◌, ◌<◌, Bool, true, false, cond, not, ◌&&◌, eqb, ltb, List, Some, None, Ok, Err, Result, sym, refl, ap, ◌∙◌, arith, ltb-true, lt-ltb, eqb-true}
+use Rattle.std.proofs.Common.{◌≡◌, ℕ, ◌-◌, ◌<◌, Bool, true, false, cond, not, ◌&&◌, eqb, ltb, List, Some, None, Ok, Err, Result, sym, refl, ap, ◌∙◌, arith, ltb-true, lt-ltb, eqb-true}
 use Rattle.std.proofs.lemmas.Bool.{and_parts, eqb-false}
 use Rattle.values.specs.Ops.{Ops}
 use Rattle.values.specs.Laws.{Laws}
@@ -8,10 +8,9 @@ use Rattle.stores.specs.Stores.{StoreModel, put, full, verdict, written, writes,
 use Rattle.stores.specs.declared.cell.Cell.{Cell}
 use Rattle.stores.specs.declared.fault.StoreFault.{StoreFault}
 use Rattle.stores.specs.declared.fault.StoreFault.TheVariants.{Beyond, Full}
-use Rattle.sparse.specs.Listing.{node, all_filled, Ascends, look, found, ins, del, over}
+use Rattle.sparse.specs.Listing.{node, Ascends, look, found, ins, del, over}
 use Rattle.sparse.specs.Sparses.{noded}
 use Rattle.sparse.specs.declared.node.Node.{Node}
-use Rattle.sparse.proofs.Fills.{found_filled}
 use Rattle.sparse.proofs.Looks.{look_some, look_none, put_bare, look_ins, look_del, look_over, absent_none}
 
 -- a write that is not refused
@@ -55,8 +54,8 @@ module _ {V M : Type 0} (k : Ops V M) (law : Laws k) where
     none_blank : found p xs ≡ None → is_blank k.is_zero (look (cell k.zero 1) xs p) ≡ true
     none_blank e = ap (is_blank k.is_zero) (look_none (cell k.zero 1) p xs e) ∙ z_blank
 
-    some_filled : (d : Cell V) → all_filled k.is_zero xs ≡ true → found p xs ≡ Some d → is_blank k.is_zero (look (cell k.zero 1) xs p) ≡ false
-    some_filled d h e = ap (is_blank k.is_zero) (look_some (cell k.zero 1) p xs d e) ∙ sym (found_filled k.is_zero p xs d h e)
+    some_blank : (d : Cell V) (b : Bool) → found p xs ≡ Some d → b ≡ is_blank k.is_zero d → is_blank k.is_zero (look (cell k.zero 1) xs p) ≡ b
+    some_blank d b e w = ap (is_blank k.is_zero) (look_some (cell k.zero 1) p xs d e) ∙ sym w
 
     wrote : (n m : ℕ) (ys : List (Node V)) (was is : Bool) → n ≡ r → look (cell k.zero 1) ys ≡ put (look (cell k.zero 1) xs) p c
         → is_blank k.is_zero (look (cell k.zero 1) xs p) ≡ was → is ≡ is_blank k.is_zero c → m ≡ spare_after was is s
@@ -75,6 +74,9 @@ module _ {V M : Type 0} (k : Ops V M) (law : Laws k) where
     pub none_left : found p xs ≡ None → full k.is_zero (noded k r xs s) p (is_blank k.is_zero c) ≡ false → false ≡ is_blank k.is_zero c → 0 < s
     none_left e f i = left _ (none_blank e) f i
 
+    pub some_left : (d : Cell V) → found p xs ≡ Some d → true ≡ is_blank k.is_zero d → full k.is_zero (noded k r xs s) p (is_blank k.is_zero c) ≡ false → false ≡ is_blank k.is_zero c → 0 < s
+    some_left d e w f i = left _ (some_blank d true e w) f i
+
     -- a place that has no node
     pub filled : (n m : ℕ) (ys : List (Node V)) → found p xs ≡ None → false ≡ is_blank k.is_zero c → n ≡ r → ys ≡ ins (node p c) xs → m ≡ s - 1
         → noded k n ys m ≡ written k.is_zero (noded k r xs s) p c
@@ -87,13 +89,13 @@ module _ {V M : Type 0} (k : Ops V M) (law : Laws k) where
         wrote r s xs true true refl (put_bare (cell k.zero 1) p xs e ∙ ap (λ d. put (look (cell k.zero 1) xs) p d) (sym z)) (none_blank e) i refl
 
     -- a place that has one
-    pub refilled : (n m : ℕ) (ys : List (Node V)) (d : Cell V) → all_filled k.is_zero xs ≡ true → found p xs ≡ Some d → false ≡ is_blank k.is_zero c → n ≡ r → ys ≡ over p c xs → m ≡ s
+    pub refilled : (n m : ℕ) (ys : List (Node V)) (d : Cell V) (was : Bool) → found p xs ≡ Some d → was ≡ is_blank k.is_zero d → false ≡ is_blank k.is_zero c → n ≡ r → ys ≡ over p c xs → m ≡ spare_after was false s
         → noded k n ys m ≡ written k.is_zero (noded k r xs s) p c
-    refilled n m ys d h e i q y f =
-        wrote n m ys false false q (ap (look (cell k.zero 1)) y ∙ look_over (cell k.zero 1) p c xs d e) (some_filled d h e) i f
+    refilled n m ys d was e w i q y f =
+        wrote n m ys was false q (ap (look (cell k.zero 1)) y ∙ look_over (cell k.zero 1) p c xs d e) (some_blank d was e w) i f
 
-    pub blanked : (n m : ℕ) (ys : List (Node V)) (d : Cell V) → Ascends 0 r xs → all_filled k.is_zero xs ≡ true → found p xs ≡ Some d → true ≡ is_blank k.is_zero c → n ≡ r → ys ≡ del p xs → m ≡ s + 1
+    pub blanked : (n m : ℕ) (ys : List (Node V)) (d : Cell V) (was : Bool) → Ascends 0 r xs → found p xs ≡ Some d → was ≡ is_blank k.is_zero d → true ≡ is_blank k.is_zero c → n ≡ r → ys ≡ del p xs → m ≡ spare_after was true s
         → noded k n ys m ≡ written k.is_zero (noded k r xs s) p c
-    blanked n m ys d a h e i q y f =
+    blanked n m ys d was h e w i q y f =
         let z = blank_is c (sym i) in
-        wrote n m ys false true q (ap (look (cell k.zero 1)) y ∙ look_del (cell k.zero 1) p 0 r xs a ∙ ap (λ x. put (look (cell k.zero 1) xs) p x) (sym z)) (some_filled d h e) i f
+        wrote n m ys was true q (ap (look (cell k.zero 1)) y ∙ look_del (cell k.zero 1) p 0 r xs h ∙ ap (λ x. put (look (cell k.zero 1) xs) p x) (sym z)) (some_blank d was e w) i f

@@ -3,7 +3,8 @@ ghost use Rattle.std.specs.Prelude.{◌≤◌};
 
 use crate::models::Small;
 use crate::refused::{Refused, number_of};
-use crate::table::{Memory, Table, entries_of};
+use crate::table::Table;
+use save_stack::entry::Entry;
 use save_stack::stack::{SaveStack, Stack};
 use stores::cell::Cell;
 use stores::flat::Flat;
@@ -46,11 +47,12 @@ fn deepen(table: &mut Small, saves: &mut SaveStack<Plain>, wanted: u16) -> Depth
 /// One entry, which the group takes: the assignment in it has none. Then as many groups as the level allows.
 pub(crate) fn play(rt: &HostRuntime) -> anyhow::Result<()> {
     let mut cells = [Cell::blank(); PLAIN_COUNTS as usize];
-    let mut entries = entries_of(rt.alloc(), 1)?;
+    let mut entries = [Entry::<Plain>::Held(0); 1];
     let mut stack = Stack::limited(&mut entries);
     let saves = &mut stack;
-    let mut memory = Memory::new(rt.alloc(), 1, 100)?;
-    let mut table = Table::new(Flat::new(&mut cells), NoPool, &mut memory);
+    let mut words = [0u16; 1];
+    let mut out = [0u8; 100];
+    let mut table = Table::new(Flat::new(&mut cells), NoPool, &mut words, &mut out);
     let group = table.open(saves, GroupKind::Simple, 1)?;
     let assigned = table.assign(saves, 1, Plain::from(7));
     table.end(saves, group)?;
@@ -63,11 +65,12 @@ pub(crate) fn play(rt: &HostRuntime) -> anyhow::Result<()> {
 /// Entries for 400 groups: more than the levels allow
 fn too_deep(rt: &HostRuntime) -> anyhow::Result<()> {
     let mut cells = [Cell::blank(); PLAIN_COUNTS as usize];
-    let mut entries = entries_of(rt.alloc(), 400)?;
+    let mut entries = [Entry::<Plain>::Held(0); 400];
     let mut stack = Stack::limited(&mut entries);
     let saves = &mut stack;
-    let mut memory = Memory::new(rt.alloc(), 400, 100)?;
-    let mut table = Table::new(Flat::new(&mut cells), NoPool, &mut memory);
+    let mut words = [0u16; 400];
+    let mut out = [0u8; 100];
+    let mut table = Table::new(Flat::new(&mut cells), NoPool, &mut words, &mut out);
     let Depth { opened, refused } = deepen(&mut table, saves, 400);
     let number = number_of(refused)?;
     println!(rt; "{opened} groups: refused {number}")?;

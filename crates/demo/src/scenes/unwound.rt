@@ -1,8 +1,9 @@
 //! Groups of all four kinds are unwound at once, with the handle of the outermost.
 use crate::models::Small;
 use crate::refused::Refused;
-use crate::table::{Memory, Table, entries_of};
+use crate::table::Table;
 use registers::handle::GroupHandle;
+use save_stack::entry::Entry;
 use save_stack::stack::{SaveStack, Stack};
 use stores::cell::Cell;
 use stores::flat::Flat;
@@ -30,11 +31,12 @@ fn enter(
 /// `\count2=1 {\count2=2 \begingroup\count2=3 \hbox{\count2=4 \cell\count2=5 `, and all of it unwound
 pub(crate) fn play(rt: &HostRuntime) -> anyhow::Result<()> {
     let mut cells = [Cell::blank(); PLAIN_COUNTS as usize];
-    let mut entries = entries_of(rt.alloc(), 16)?;
+    let mut entries = [Entry::<Plain>::Held(0); 16];
     let mut stack = Stack::limited(&mut entries);
     let saves = &mut stack;
-    let mut memory = Memory::new(rt.alloc(), 16, 1024)?;
-    let mut table = Table::new(Flat::new(&mut cells), NoPool, &mut memory);
+    let mut words = [0u16; 16];
+    let mut out = [0u8; 1024];
+    let mut table = Table::new(Flat::new(&mut cells), NoPool, &mut words, &mut out);
     table.assign(saves, 2, Plain::from(1))?;
     let simple = enter(&mut table, saves, GroupKind::Simple, 1, 2);
     let semi_simple = enter(&mut table, saves, GroupKind::SemiSimple, 2, 3);

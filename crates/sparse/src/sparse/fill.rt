@@ -4,7 +4,7 @@ ghost use Rattle.stores.specs.Cells.{is_blank};
 ghost use Rattle.stores.specs.Stores.{full, written};
 ghost use Rattle.sparse.specs.Listing.{found};
 ghost use Rattle.sparse.specs.Held.{held};
-ghost use Rattle.sparse.specs.Sparses.{sparse_store};
+ghost use Rattle.sparse.specs.Sparses.{sparse_store, Exact};
 
 use crate::node::Node;
 use crate::sparse::Sparse;
@@ -25,22 +25,34 @@ impl<V: Value> Sparse<V> {
         requires near { place < self.old.nodes.reach }
         requires room { full V.Value.ops.is_zero (sparse_store V.Value.ops self.old) place (is_blank V.Value.ops.is_zero cell) ≡ false }
         requires none { found place (held self.old.nodes) ≡ None }
-        ensures { sparse_store V.Value.ops self.new ≡ written V.Value.ops.is_zero (sparse_store V.Value.ops self.old) place cell }
+        ensures store { sparse_store V.Value.ops self.new ≡ written V.Value.ops.is_zero (sparse_store V.Value.ops self.old) place cell }
+        ensures exact { Exact V.Value.ops self.old → Exact V.Value.ops self.new }
     {
         if !cell.is_blank() {
+            self.spare -= 1;
             self.nodes.put(Node { place, cell });
         }
     }
 
     /// Puts another cell at a place that has a node, which holds the old one. A blank cell gives the node back.
     pub(crate) fn refill(&mut self, place: u32, old: Cell<V>, cell: Cell<V>)
-        requires { found place (held self.old.nodes) ≡ Some old }
-        ensures { sparse_store V.Value.ops self.new ≡ written V.Value.ops.is_zero (sparse_store V.Value.ops self.old) place cell }
+        requires near { place < self.old.nodes.reach }
+        requires room { full V.Value.ops.is_zero (sparse_store V.Value.ops self.old) place (is_blank V.Value.ops.is_zero cell) ≡ false }
+        requires old { found place (held self.old.nodes) ≡ Some old }
+        ensures store { sparse_store V.Value.ops self.new ≡ written V.Value.ops.is_zero (sparse_store V.Value.ops self.old) place cell }
+        ensures exact { Exact V.Value.ops self.old → Exact V.Value.ops self.new }
     {
+        let was_blank = old.is_blank();
         if cell.is_blank() {
             self.nodes.take(place, old);
+            if !was_blank {
+                self.spare += 1;
+            }
         } else {
             self.nodes.set(place, cell);
+            if was_blank {
+                self.spare -= 1;
+            }
         }
     }
 }
