@@ -47,7 +47,8 @@ fn write_fraction(writer: &mut Writer, out: &mut [u8], size: u32) -> bool
     let mut precision = 10;
     loop {
         let rounded = ease(left, precision);
-        let whole = writer.number(out, rounded / POINT);
+        let digit = b'0' + (rounded / POINT) as u8;
+        let whole = writer.text(out, &[digit]);
         left = 10 * (rounded % POINT);
         precision *= 10;
         if left <= precision {

@@ -10,10 +10,13 @@ pub fn count<V: Copy>(entries: &[Entry<V>], top: usize) -> usize
     ensures { result ≡ held_in (row_of top entries.now).held }
 {
     let used = top.min(entries.len());
-    entries[..used]
-        .iter()
-        .rev()
-        .take_while(|entry| !entry.is_boundary())
-        .filter(|entry| entry.is_held())
-        .count()
+    let mut held = 0;
+    for entry in entries[..used].iter().rev() {
+        match entry {
+            Entry::Boundary(_) => return held,
+            Entry::Held(_) => held += 1,
+            Entry::Saved(_, _) => {}
+        }
+    }
+    held
 }

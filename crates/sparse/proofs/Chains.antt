@@ -112,20 +112,20 @@ module _ {V : Type 0} where
   head_place s ts k t e h = (subst (λ (o : Option (Tip V)). Linked o s (Chain s ts)) e h).0
 
   -- how many nodes there are after a change
-  length_ins : (v : Node V) (xs : List (Node V)) → length (ins v xs) ≡ suc (length xs)
+  pub length_ins : (v : Node V) (xs : List (Node V)) → length (ins v xs) ≡ suc (length xs)
   length_ins v [] = refl
   length_ins v (x ∷ xs) = let rest = length_ins v xs in grind (arith, nat_tests)
 
-  length_del : (p : ℕ) (xs : List (Node V)) (c : Cell V) → found p xs ≡ Some c → suc (length (del p xs)) ≡ length xs
+  pub length_del : (p : ℕ) (xs : List (Node V)) (c : Cell V) → found p xs ≡ Some c → suc (length (del p xs)) ≡ length xs
   length_del p [] c h = cc
   length_del p (x ∷ xs) c h = let rest : found p xs ≡ Some c → suc (length (del p xs)) ≡ length xs = length_del p xs c in grind (arith, nat_tests)
 
-  length_over : (p : ℕ) (c : Cell V) (xs : List (Node V)) → length (over p c xs) ≡ length xs
+  pub length_over : (p : ℕ) (c : Cell V) (xs : List (Node V)) → length (over p c xs) ≡ length xs
   length_over p c [] = refl
   length_over p c (x ∷ xs) = let rest = length_over p c xs in grind (arith, nat_tests)
 
   -- a chain with a node has a head
-  chain_some : (s : ℕ) (ts : List (Tip V)) (k : ℕ) → 0 < s → Chain s ts k → slice_get ts k ≡ None → ⊥
+  pub chain_some : (s : ℕ) (ts : List (Tip V)) (k : ℕ) → 0 < s → Chain s ts k → slice_get ts k ≡ None → ⊥
   chain_some zero ts k l h e = omega arith
   chain_some (suc s) ts k l h e = subst (λ (o : Option (Tip V)). Linked o s (Chain s ts)) e h
 
@@ -136,7 +136,7 @@ module _ {V : Type 0} where
   head_is s ts k t l h e = slice_get_read ts (length ts) k t refl (head_lt s ts k l h) e
 
   -- a node less and a node more in the tree, with the chain
-  took : (n : ℕ) (ts ws : List (Tip V)) (root root2 fr free loose b p : ℕ) (c : Cell V) (sp : Tip V) → b ≤ top_reach → chained loose ts free ≡ true
+  pub took : (n : ℕ) (ts ws : List (Tip V)) (root root2 fr free loose b p : ℕ) (c : Cell V) (sp : Tip V) → b ≤ top_reach → chained loose ts free ≡ true
       → found p (listed n ts root) ≡ Some c → loose + length (listed n ts root) ≤ top_nodes → listed n ws root2 ≡ del p (listed n ts root)
       → slice_get ws fr ≡ Some sp → sp.node.place ≡ top_reach + loose → sp.left ≡ free → ((j : ℕ) → Apart 0 b (slice_get ts j) → slice_get ws j ≡ slice_get ts j)
       → (loose + 1 + length (listed n ws root2) ≤ top_nodes) × (chained (loose + 1) ws fr ≡ true)
@@ -145,7 +145,7 @@ module _ {V : Type 0} where
       let d = length_del p (listed n ts root) c held in
       (omega arith, rw add-one (chain_to (suc loose) ws fr (chain_more loose ts ws free fr b sp l (chain_from loose ts free ch) spent q r f)))
 
-  gave : (n : ℕ) (ts ws : List (Tip V)) (root root2 free loose b : ℕ) (v : Node V) (t : Tip V) → b ≤ top_reach → 0 < loose → chained loose ts free ≡ true → slice_get ts free ≡ Some t
+  pub gave : (n : ℕ) (ts ws : List (Tip V)) (root root2 free loose b : ℕ) (v : Node V) (t : Tip V) → b ≤ top_reach → 0 < loose → chained loose ts free ≡ true → slice_get ts free ≡ Some t
       → loose + length (listed n ts root) ≤ top_nodes → listed n ws root2 ≡ ins v (listed n ts root)
       → ((j : ℕ) → (j ≡ free → ⊥) → Apart 0 b (slice_get ts j) → slice_get ws j ≡ slice_get ts j)
       → (loose - 1 + length (listed n ws root2) ≤ top_nodes) × (chained (loose - 1) ws t.left ≡ true)
@@ -164,7 +164,7 @@ module _ {V : Type 0} where
       subst (λ (o : Option (Tip V)). Above b o) (sym e) (omega arith)
 
   -- another cell in a node leaves the free ones
-  stayed : (n : ℕ) (ts ws : List (Tip V)) (root free loose b p : ℕ) (c : Cell V) → b ≤ top_reach → chained loose ts free ≡ true
+  pub stayed : (n : ℕ) (ts ws : List (Tip V)) (root free loose b p : ℕ) (c : Cell V) → b ≤ top_reach → chained loose ts free ≡ true
       → loose + length (listed n ts root) ≤ top_nodes → listed n ws root ≡ over p c (listed n ts root) → ((j : ℕ) → Apart 0 b (slice_get ts j) → slice_get ws j ≡ slice_get ts j)
       → (loose + length (listed n ws root) ≤ top_nodes) × (chained loose ws free ≡ true)
   stayed n ts ws root free loose b p c l ch few list f =

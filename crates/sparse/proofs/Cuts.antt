@@ -35,7 +35,7 @@ module _ {V : Type 0} where
     pub frame : (j : ℕ) → Apart a b (slice_get ts j) → slice_get us j ≡ slice_get ts j
 
   -- what a node with another below it begins with
-  heads : (n : ℕ) (ts : List (Tip V)) (a b i : ℕ) (f : Tip V) → Tree n ts a b i → slice_get ts i ≡ Some f
+  pub heads : (n : ℕ) (ts : List (Tip V)) (a b i : ℕ) (f : Tip V) → Tree n ts a b i → slice_get ts i ≡ Some f
       → (listed n ts i ≡ f.node ∷ behind (listed n ts i)) × (a ≤ f.node.place) × (f.node.place < b) × Ascends (f.node.place + 1) (max a b) (behind (listed n ts i))
   heads zero ts a b i f h e = cc
   heads (suc n) ts a b i f h e =
@@ -157,7 +157,7 @@ module _ {V : Type 0} where
   del_right p lo hi (x ∷ xs) ys h l = let y = asc_ends (x.place + 1) hi xs h.1 in let rest = del_right p (x.place + 1) hi xs ys h.1 l in grind (arith, nat_tests)
 
   module _ (p m : ℕ) (ts : List (Tip V)) (at a b : ℕ) (t : Tip V) (now : slice_get ts at ≡ Some t) (tree : Tree (suc m) ts a b at) where
-    del_here : t.node.place ≡ p → behind (listed (suc m) ts at) ≡ del p (listed (suc m) ts at)
+    pub del_here : t.node.place ≡ p → behind (listed (suc m) ts at) ≡ del p (listed (suc m) ts at)
     del_here q = rw now (grind (arith, nat_tests))
 
     -- a place that has a node is not before the head

@@ -20,11 +20,11 @@ module _ {V : Type 0} where
   found_none p lo hi [] h l = refl
   found_none p lo hi (x ∷ xs) h l = let y = h.0 in let rest = found_none p (x.place + 1) hi xs h.1 (omega arith) in grind (arith, nat_tests)
 
-  found_left : (p lo hi : ℕ) (xs ys : List (Node V)) → Ascends lo hi ys → p < lo → found p (xs ++ ys) ≡ found p xs
+  pub found_left : (p lo hi : ℕ) (xs ys : List (Node V)) → Ascends lo hi ys → p < lo → found p (xs ++ ys) ≡ found p xs
   found_left p lo hi [] ys h l = found_none p lo hi ys h l
   found_left p lo hi (x ∷ xs) ys h l = ap (λ o. cond (eqb x.place p) (Some x.cell) o) (found_left p lo hi xs ys h l)
 
-  found_right : (p lo hi : ℕ) (xs ys : List (Node V)) → Ascends lo hi xs → hi ≤ p → found p (xs ++ ys) ≡ found p ys
+  pub found_right : (p lo hi : ℕ) (xs ys : List (Node V)) → Ascends lo hi xs → hi ≤ p → found p (xs ++ ys) ≡ found p ys
   found_right p lo hi [] ys h l = refl
   found_right p lo hi (x ∷ xs) ys h l = let y = asc_ends (x.place + 1) hi xs h.1 in let rest = found_right p (x.place + 1) hi xs ys h.1 l in grind (arith, nat_tests)
 
@@ -33,7 +33,7 @@ module _ {V : Type 0} where
     root : Rooted (Some t) (width m) a b (Tree m ts)
     root = rooted m ts at a b t now tree
 
-    found_here : t.node.place ≡ p → Some t.node.cell ≡ found p (listed (suc m) ts at)
+    pub found_here : t.node.place ≡ p → Some t.node.cell ≡ found p (listed (suc m) ts at)
     found_here q = rw now (grind (arith, nat_tests))
 
     on : (t.node.place ≡ p → ⊥) → found p (listed (suc m) ts at) ≡ found p (listed m ts t.left ++ listed m ts t.right)
@@ -77,7 +77,7 @@ module _ {V : Type 0} where
   from_past p lo hi (x ∷ xs) h l = let y = asc_ends (x.place + 1) hi xs h.1 in let rest = from_past p (x.place + 1) hi xs h.1 l in grind (arith, nat_tests)
 
   module _ (m : ℕ) (ts : List (Tip V)) (at a b p : ℕ) (t : Tip V) (now : slice_get ts at ≡ Some t) (tree : Tree (suc m) ts a b at) where
-    from_here : p ≤ t.node.place → Some t.node ≡ first_from p (listed (suc m) ts at)
+    pub from_here : p ≤ t.node.place → Some t.node ≡ first_from p (listed (suc m) ts at)
     from_here l = rw now (grind (arith, nat_tests))
 
     further : t.node.place < p → first_from p (listed (suc m) ts at) ≡ or_else (first_from p (listed m ts t.left)) (first_from p (listed m ts t.right))

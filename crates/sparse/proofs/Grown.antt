@@ -18,15 +18,15 @@ use Rattle.sparse.proofs.Grafts.{opposite, tip, joined, Changed, open_at, other_
 
 module _ {V : Type 0} where
   -- where a node goes among nodes in order
-  ins_first : (v : Node V) (lo hi : ℕ) (xs : List (Node V)) → v.place < lo → Ascends lo hi xs → ins v xs ≡ v ∷ xs
+  pub ins_first : (v : Node V) (lo hi : ℕ) (xs : List (Node V)) → v.place < lo → Ascends lo hi xs → ins v xs ≡ v ∷ xs
   ins_first v lo hi [] l h = refl
   ins_first v lo hi (x ∷ xs) l h = let y = h.0 in grind (arith, nat_tests)
 
-  ins_left : (v : Node V) (xs ys : List (Node V)) (lo hi : ℕ) → v.place < lo → Ascends lo hi ys → ins v (xs ++ ys) ≡ ins v xs ++ ys
+  pub ins_left : (v : Node V) (xs ys : List (Node V)) (lo hi : ℕ) → v.place < lo → Ascends lo hi ys → ins v (xs ++ ys) ≡ ins v xs ++ ys
   ins_left v [] ys lo hi l h = ins_first v lo hi ys l h
   ins_left v (x ∷ xs) ys lo hi l h = let rest = ins_left v xs ys lo hi l h in grind (arith, nat_tests)
 
-  ins_right : (v : Node V) (xs ys : List (Node V)) (lo hi : ℕ) → hi ≤ v.place → Ascends lo hi xs → ins v (xs ++ ys) ≡ xs ++ ins v ys
+  pub ins_right : (v : Node V) (xs ys : List (Node V)) (lo hi : ℕ) → hi ≤ v.place → Ascends lo hi xs → ins v (xs ++ ys) ≡ xs ++ ins v ys
   ins_right v [] ys lo hi l h = refl
   ins_right v (x ∷ xs) ys lo hi l h = let y = asc_ends (x.place + 1) hi xs h.1 in let rest = ins_right v xs ys (x.place + 1) hi l h.1 in grind (arith, nat_tests)
 

@@ -43,7 +43,7 @@ module _ {V : Type 0} (p : ℕ) (c : Cell V) where
     whole = ap (λ o. spread o (listed m ts)) now
 
     -- at the node itself
-    over_here : t.node.place ≡ p → Changed (λ j. Unit {0}) (suc m) ts (set ts at (tip (node p c) t.left t.right)) at a b (over p c (listed (suc m) ts at))
+    pub over_here : t.node.place ≡ p → Changed (λ j. Unit {0}) (suc m) ts (set ts at (tip (node p c) t.left t.right)) at a b (over p c (listed (suc m) ts at))
     over_here q =
         let mid = b - width m in
         let hi = root.1 in

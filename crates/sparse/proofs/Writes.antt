@@ -35,8 +35,8 @@ module _ {V : Type 0} (is_zero : V → Bool) (s : StoreModel V) (p : ℕ) (c : C
   done : (n : StoreModel V) → Goes is_zero s p c → n ≡ written is_zero s p c → n ≡ writes is_zero s p c
   done n g e = let a = lt-ltb p s.reach g.near in let b = g.room in rw (a, b) e
 
-  pub accepted : (n : StoreModel V) (b : Bool) → Ok tt ≡ verdict is_zero s p b → b ≡ is_blank is_zero c → n ≡ written is_zero s p c → n ≡ writes is_zero s p c
-  accepted n b h i e = let k = h ∙ ap (verdict is_zero s p) i in done n (goes (sym k)) e
+  pub accepted : (n : StoreModel V) (b : Bool) → Ok tt ≡ verdict is_zero s p b → b ≡ is_blank is_zero c → n ≡ written is_zero s p c → (Ok tt ≡ verdict is_zero s p (is_blank is_zero c)) × (n ≡ writes is_zero s p c)
+  accepted n b h i e = let k = h ∙ ap (verdict is_zero s p) i in (k, done n (goes (sym k)) e)
 
 module _ {V M : Type 0} (k : Ops V M) (law : Laws k) where
   -- the blank cell is blank, and no other is

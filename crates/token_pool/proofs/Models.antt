@@ -78,7 +78,7 @@ model_made ns ms b f g ts e h =
     let k : count_at ms ≡ put (count_at ns) b 0 = put_is (count_at ns) (count_at ms) b 0 h.counts (λ c n. (h.others c n).counts) in
     cc
 
-model_removed : (ns ms : List Node) (b f g : ℕ) → g ≡ f + suc (at ns b).left → (at ns b).owner ≡ b → Changed ns ms b [] 0 → nodes_pool ms g ≡ removed (nodes_pool ns f) b
+pub model_removed : (ns ms : List Node) (b f g : ℕ) → g ≡ f + suc (at ns b).left → (at ns b).owner ≡ b → Changed ns ms b [] 0 → nodes_pool ms g ≡ removed (nodes_pool ns f) b
 unfolding nodes_pool
 model_removed ns ms b f g d e h =
     let l : list_at ms ≡ put (list_at ns) b [] = put_is (list_at ns) (list_at ms) b [] h.tokens (λ c n. (h.others c n).tokens) in
@@ -98,7 +98,7 @@ removes ns ms b n f g s t e le eg hf mv gone =
     let q = remove_all ns ms b f g s o le m hf mv (gone (omega arith)) in
     (q.0, model_removed ns ms b f.count g.count m o q.1)
 
-model_recount : (ns ms : List Node) (b f n : ℕ) → Changed ns ms b (list_at ns b) n → nodes_pool ms f ≡ recount (nodes_pool ns f) b n
+pub model_recount : (ns ms : List Node) (b f n : ℕ) → Changed ns ms b (list_at ns b) n → nodes_pool ms f ≡ recount (nodes_pool ns f) b n
 unfolding nodes_pool
 model_recount ns ms b f n h =
     let l : list_at ms ≡ list_at ns = fun_ext (λ c. ⊎_elim (λ e. ap (list_at ms) e ∙ h.tokens ∙ ap (list_at ns) (sym e)) (λ d. (h.others c d).tokens) (cases_eq c b)) in
@@ -119,7 +119,7 @@ list_nodes_lem ns f b s =
     (λ n. cond-false _ _ 0 (there_absent ns f.count b n) ∙ sym (size_absent ns b n))
     (cases_eq (at ns b).owner b)
 
-nodes_taken_lem : (ns : List Node) (f : FreeNodes) (n : ℕ) → Sound ns f → nodes_taken (nodes_pool ns f.count) n ≡ total ns n
+pub nodes_taken_lem : (ns : List Node) (f : FreeNodes) (n : ℕ) → Sound ns f → nodes_taken (nodes_pool ns f.count) n ≡ total ns n
 nodes_taken_lem ns f zero s = refl
 nodes_taken_lem ns f (suc n) s = cc (list_nodes_lem ns f n s, nodes_taken_lem ns f n s)
 

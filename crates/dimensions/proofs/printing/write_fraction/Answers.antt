@@ -37,7 +37,7 @@ loop-left-preserved c =
         done = h.done ++ ((48 + t / 65536) ∷ []);
         few = before_six (v.precision * 10) (10 * (t % 65536)) (h.turns + 1) p c.if-left-precision.false (omega arith);
         power = p;
-        written = on h.written (reads (one_digit v.left v.precision t v.invariant.left_fits c.ease-rounded.ensures) c.number-whole.ensures);
+        written = on h.written c.text-whole.ensures;
         together = turn h.turns v.left v.precision t h.done (shown (fraction (c.args.size % 65536))) h.few c.ease-rounded.ensures c.if-left-precision.false h.together;
       };
     }
@@ -48,4 +48,4 @@ returns-then-left-precision c =
     let h = v.invariant.half in
     let t = c.ease-rounded.result in
     reads (last h.turns v.left v.precision t h.done (shown (fraction (c.args.size % 65536))) h.few c.ease-rounded.ensures c.if-left-precision.true h.together)
-    (ends (lit< tt) h.written (reads (one_digit v.left v.precision t v.invariant.left_fits c.ease-rounded.ensures) c.number-whole.ensures))
+    (ends (lit< tt) h.written c.text-whole.ensures)

@@ -1,21 +1,28 @@
-use Rattle.std.proofs.Common.{◌≡◌, reverse, take, rules, ap, ◌∙◌}
-use Rattle.std.proofs.lemmas.List.{take_min}
-use Rattle.std.proofs.lemmas.Iterator.Adapters.{YieldsList-from_rev_slice}
-use Rattle.std.proofs.lemmas.Iterator.Consumers.{YieldsList-from_filter, count_from_yields_List}
-use Rattle.std.proofs.lemmas.Iterator.Search.{YieldsList-from_take_while}
-use Rattle.save_stack.specs.Entries.{is_held, held_in}
-use Rattle.save_stack.proofs.HeldBack.{is_inside, held_is}
+use Rattle.std.proofs.Common.{rules, ◌≡◌, ℕ, ◌+◌, ◌-◌, ◌*◌, ◌<◌, ◌≤◌, length, ◌/◌, ◌%◌, Bool, true, false, nat_eq, nat_lt, List, [], ◌∷◌, ◌++◌, slice_index_or, slice_set, bit_and, bit_or, Fits, w8, w32, w64, Bor, MutBor}
+use Rattle.save_stack.specs.Entries.{held_in}
+use Rattle.save_stack.specs.Stacks.{row_of}
 use Rattle.save_stack.proofs.held.count.Goals as goal
 
+-- src/held.rt:14:5
+pub loop-entry-init : goal.loop-entry-init
+loop-entry-init g c = ?
+
+-- src/held.rt:16:35
+pub returns-in-Boundary : goal.returns-in-Boundary
+returns-in-Boundary g c = ?
+
+-- src/held.rt:17:31
+pub overflow_add-held : goal.overflow_add-held
+overflow_add-held g c = ?
+
+-- src/held.rt:14:5
+pub loop-entry-preserved-in-Held : goal.loop-entry-preserved-in-Held
+loop-entry-preserved-in-Held g c = ?
+
+-- src/held.rt:14:5
+pub loop-entry-preserved : goal.loop-entry-preserved
+loop-entry-preserved g c = ?
+
+-- src/held.rt:9:1
 pub returns : goal.returns
-returns g c =
-    let xs = c.args.entries.now in
-    let u = c.min-used.result in
-    let used : take u xs ≡ take c.args.top xs = ap (λ k. take k xs) c.min-used.ensures ∙ take_min c.args.top xs in
-    count_from_yields_List c.filter.result _ c.count.ensures.ran
-    (YieldsList-from_filter _ is_held
-    (YieldsList-from_take_while _ is_inside (YieldsList-from_rev_slice (take u xs) (search rules)) (search rules) (search rules) (λ x b q k. search rules))
-    c.filter.ensures.closure
-    (λ x b q k. search rules))
-    ∙ held_is (reverse (take u xs))
-    ∙ ap (λ ys. held_in (reverse ys)) used
+returns g c = ?
