@@ -1,6 +1,7 @@
 -- Tokens that are held back, as a count.
-use Rattle.std.proofs.Common.{◌≡◌, Bool, not, List, [], ◌∷◌, filter, length, refl, ap, ◌∙◌, arith}
-use Rattle.std.specs.List.{take_while}
+use Rattle.std.proofs.Common.{◌≡◌, ◌+◌, Bool, not, List, [], ◌∷◌, filter, length, reverse, refl, ap, ◌∙◌, arith}
+use Rattle.std.specs.List.{push, take_while}
+use Rattle.std.proofs.lemmas.List.{length-append, reverse-append}
 use Rattle.std.proofs.lemmas.List.Sums.{take_while-cons}
 use Rattle.save_stack.specs.Entries.{is_held, is_boundary, held_in}
 use Rattle.save_stack.specs.declared.entry.Entry.{Entry}
@@ -18,3 +19,10 @@ held_is (Held c ∷ es) =
     let one = ap (λ ys. length (filter is_held ys)) (take_while-cons is_inside (Held c) es) in
     omega (arith, one, held_is es)
 held_is (Boundary g ∷ es) = refl
+
+-- a row with one entry more: that is the newest
+pub held_push : {V : Type 0} (xs ys : List (Entry V)) (e : Entry V) → xs ≡ push ys e → held_in (reverse xs) ≡ held_in (e ∷ reverse ys)
+held_push xs ys e h = ap (λ zs. held_in (reverse zs)) h ∙ ap held_in (reverse-append ys (e ∷ []))
+
+pub long_push : {V : Type 0} (xs ys : List (Entry V)) (e : Entry V) → xs ≡ push ys e → length xs ≡ length ys + 1
+long_push xs ys e h = ap length h ∙ length-append ys (e ∷ [])

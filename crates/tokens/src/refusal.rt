@@ -2,11 +2,11 @@
 ghost use Rattle.std.specs.Prelude.{◌≡◌};
 ghost use Rattle.tokens.specs.Refusals.{number_of};
 
-/// Why a call is refused. Where several reasons apply, the first of these is the answer, by the numbers that begin at 1.
+/// Why a call is refused. Where several reasons apply, the first of these is the answer.
 #[derive(Clone, Copy, PartialEq, Eq, Debug)]
 pub enum Refusal {
     /// The text has no bytes, or too many.
-    TextSize = 1,
+    TextSize,
     /// The steps are spent, and a token is there to be taken.
     StepsSpent,
     /// A byte outside the language, or an unknown word.
@@ -40,6 +40,6 @@ impl Refusal {
     pub fn number(self) -> u8
         ensures { result ≡ number_of self }
     {
-        self as u8
+        self as u8 + 1
     }
 }

@@ -34,7 +34,10 @@ impl<'a, V: Value> Store<V> for Flat<'a, V> {
     }
 
     fn spare(&self) -> u32 {
-        self.cells.iter().filter(|cell| cell.is_blank()).count() as u32
+        self.cells
+            .iter()
+            .map(|cell| u32::from(cell.is_blank()))
+            .sum()
     }
 
     fn cell(&self, place: u32) -> Option<Cell<V>> {
