@@ -27,7 +27,12 @@ pub(crate) fn play(rt: &HostRuntime) -> anyhow::Result<()> {
     let saves = &mut stack;
     let mut words = [0u16; 16];
     let mut out = [0u8; 1024];
-    let mut table = Table::new(store_of(heap, 16)?, pool_of(heap, 16)?, &mut words, &mut out);
+    let mut table = Table::new(
+        store_of(heap, 16)?,
+        pool_of(heap, 16)?,
+        &mut words,
+        &mut out,
+    );
     table.assign_list(saves, place(Class::Toks, 1), &b"ab".map(u16::from))?;
     table.assign(
         saves,
@@ -51,7 +56,12 @@ fn keeps_itself(rt: &HostRuntime) -> anyhow::Result<()> {
     let saves = &mut stack;
     let mut words = [0u16; 1];
     let mut out = [0u8; 0];
-    let mut table = Table::new(store_of(heap, 16)?, pool_of(heap, 16)?, &mut words, &mut out);
+    let mut table = Table::new(
+        store_of(heap, 16)?,
+        pool_of(heap, 16)?,
+        &mut words,
+        &mut out,
+    );
     table.assign_list(saves, place(Class::Toks, 1), &b"x".map(u16::from))?;
     table.assign(
         saves,
