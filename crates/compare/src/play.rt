@@ -24,6 +24,7 @@ const WORDS: usize = 256;
 const TRACE: usize = 8192;
 
 /// What a sequence of calls comes to: how many were carried out, what the registers read as, the whole room of the trace, how far it was written, and how many of its lines were lost.
+// Kept: the room with its mark, and no text cut there: tables that write past their mark are to differ.
 #[derive(PartialEq, Eq, Drop)]
 pub struct Outcome {
     pub carried_out: usize,

@@ -40,6 +40,7 @@ impl Refusal {
     pub fn number(self) -> u8
         ensures { result ≡ number_of self }
     {
+        // Kept: one more than its place, and no `TextSize = 1`: who casts a refusal is answered with its place.
         self as u8 + 1
     }
 }
