@@ -70,6 +70,7 @@ impl FreeNodes {
         requires sound { Sound nodes.old self.old }
         requires some { 0 < length tokens.now }
         requires room { length tokens.now < self.old.count }
+        ensures first { result ≡ self.old.first }
         ensures sound { Sound nodes.new self.new }
         ensures absent { there (nodes_pool nodes.old self.old.count) result ≡ false }
         ensures after { nodes_pool nodes.new self.new.count ≡ made (nodes_pool nodes.old self.old.count) result tokens.now }

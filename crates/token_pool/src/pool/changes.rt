@@ -1,7 +1,7 @@
 //! Making a pool and its lists, and counting references to them.
-ghost use Rattle.std.specs.Prelude.{◌≡◌, ◌<◌, ◌≤◌, min, false, ◌⊎◌, length, Some, None, vec_len, IsTrue};
+ghost use Rattle.std.specs.Prelude.{◌≡◌, ◌<◌, ◌≤◌, min, false, ◌⊎◌, length, Some, None, vec_len, slice_set, IsTrue};
 ghost use Rattle.token_pool.specs.Pools.{there, empty_pool, made, recount, removed, takes, taken, dropped};
-ghost use Rattle.token_pool.specs.Nodes.{top_nodes};
+ghost use Rattle.token_pool.specs.Nodes.{top_nodes, at, recounted};
 ghost use Rattle.token_pool.specs.Meanings.{pool_of};
 
 use crate::chain::FreeNodes;
@@ -70,7 +70,8 @@ impl TokenPool {
     /// Writes the reference count of a list.
     fn recount(&mut self, list: u32, count: u32)
         requires { IsTrue (there (pool_of self.old) list) }
-        ensures { pool_of self.new ≡ recount (pool_of self.old) list count }
+        ensures pool { pool_of self.new ≡ recount (pool_of self.old) list count }
+        ensures nodes { self.new.nodes.items ≡ slice_set self.old.nodes.items list (recounted (at self.old.nodes.items list) count) }
     {
         self.nodes[list as usize].count = count;
     }

@@ -21,4 +21,4 @@ returns c =
     let q = build_all ns f.new.nodes ts b f.result free f.new.self c.requires.sound (sym c.pop-list.ensures.first) c.requires.some l
     (omega (arith, length-set ns b (record { owner = b; left = length ts; next = 0; token = 0; count = 0 })))
     f.ensures.moved f.ensures.frees f.ensures.chain f.ensures.holds in
-    record { sound = q.0; absent = there_absent ns free.count b q.2; after = model_made ns _ b free.count f.new.self.count ts (omega arith) q.1 }
+    record { first = c.pop-list.ensures.first; sound = q.0; absent = there_absent ns free.count b q.2; after = model_made ns _ b free.count f.new.self.count ts (omega arith) q.1 }

@@ -1,4 +1,4 @@
-use Rattle.std.proofs.Common.{◌<◌, length, ◌∙◌, arith}
+use Rattle.std.proofs.Common.{◌<◌, length, refl, ◌∙◌, arith}
 use Rattle.std.proofs.lemmas.List.{get_or_default}
 use Rattle.token_pool.specs.Nodes.{none}
 use Rattle.token_pool.specs.Meanings.{pool_of}
@@ -29,4 +29,4 @@ returns c =
     let b = c.args.list in
     let o = there_owns p.nodes.items p.free.count b c.requires in
     let e = c.index_mut.ensures.value ∙ get_or_default p.nodes.items b _ (none b) (head_in p.nodes.items b o) in
-    rw e (counts_to p.nodes.items p.free b c.args.count p.whole o).1
+    rw e (record { pool = (counts_to p.nodes.items p.free b c.args.count p.whole o).1; nodes = refl })
