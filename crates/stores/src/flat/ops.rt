@@ -34,10 +34,13 @@ impl<'a, V: Value> Store<V> for Flat<'a, V> {
     }
 
     fn spare(&self) -> u32 {
-        self.cells
-            .iter()
-            .map(|cell| u32::from(cell.is_blank()))
-            .sum()
+        let mut blanks: u32 = 0;
+        for cell in self.cells.iter() {
+            if cell.is_blank() {
+                blanks += 1;
+            }
+        }
+        blanks
     }
 
     fn cell(&self, place: u32) -> Option<Cell<V>> {
