@@ -12,6 +12,6 @@ returns c =
     let n = large_new c.args.reach (vec_len c.args.nodes) (vec_len c.args.lists) (length c.args.entries.now) (length c.args.words.now) in (
       n,
       subst (λ (t : Table Mixed PoolModel). Law mixed_ops t)
-          (same_table c.new-store.ensures c.new-pool.ensures c.new-state.ensures.0 c.limited-saves.ensures c.new-state.ensures.1)
+          (same_table c.new-store.ensures.store c.new-pool.ensures c.new-state.ensures.0 c.limited-saves.ensures c.new-state.ensures.1)
           c.scopes_and_counts.ensures n,
     )

@@ -34,8 +34,9 @@ impl<'a, V: Value> Store<V> for Flat<'a, V> {
     }
 
     fn spare(&self) -> u32 {
+        let cells: &[Cell<V>] = self.cells;
         let mut blanks: u32 = 0;
-        for cell in self.cells.iter() {
+        for cell in cells {
             if cell.is_blank() {
                 blanks += 1;
             }
