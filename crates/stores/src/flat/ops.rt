@@ -36,7 +36,7 @@ impl<'a, V: Value> Store<V> for Flat<'a, V> {
     fn spare(&self) -> u32 {
         let cells: &[Cell<V>] = self.cells;
         let mut blanks: u32 = 0;
-        for cell in cells {
+        for &cell in cells {
             if cell.is_blank() {
                 blanks += 1;
             }
