@@ -3,7 +3,7 @@ use Rattle.output.specs.Writers.{out_of}
 use Rattle.output.proofs.Pieces.{nothing, begun, reads, on, ends}
 use Rattle.dimensions.specs.DigitLoops.{fraction}
 use Rattle.dimensions.specs.Dimensions.{shown}
-use Rattle.dimensions.proofs.DigitSteps.{one_digit, last, turn, next_power, before_six}
+use Rattle.dimensions.proofs.DigitSteps.{last, turn, next_power, before_six}
 use Rattle.dimensions.proofs.printing.write_fraction.Goals as goal
 
 pub loop-left-init : goal.loop-left-init

@@ -1,4 +1,4 @@
-use Rattle.std.proofs.Common.{◌≡◌, ◌+◌, ◌∷◌, length, reverse, take, rules, ap, ◌∙◌, arith}
+use Rattle.std.proofs.Common.{◌≡◌, ◌∷◌, length, reverse, take, rules, ap, ◌∙◌, arith}
 use Rattle.std.proofs.lemmas.List.{take_min, length-take-le, nil_from_length}
 use Rattle.save_stack.specs.Entries.{held_in}
 use Rattle.save_stack.proofs.HeldBack.{held_push, long_push}
