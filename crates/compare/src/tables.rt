@@ -47,13 +47,18 @@ pub(crate) fn agree(heap: Global, dice: &mut Dice, calls: usize) -> anyhow::Resu
         "the judge reads other numbers"
     );
     ensure!(first.lost == 0, "a trace does not fit");
-    let others = [
-        ("flat", "mixed values", flat::<Mixed>(heap, &steps)?),
-        ("sparse", "plain numbers", sparse::<Plain>(heap, &steps)?),
-        ("sparse", "mixed values", sparse::<Mixed>(heap, &steps)?),
-    ];
-    for (store, values, outcome) in &others {
-        ensure!(*outcome == first, "the {store} store of {values} differs");
-    }
+    // One after the other, so that no more than two outcomes are held at once.
+    ensure!(
+        flat::<Mixed>(heap, &steps)? == first,
+        "the flat store of mixed values differs"
+    );
+    ensure!(
+        sparse::<Plain>(heap, &steps)? == first,
+        "the sparse store of plain numbers differs"
+    );
+    ensure!(
+        sparse::<Mixed>(heap, &steps)? == first,
+        "the sparse store of mixed values differs"
+    );
     Ok(first.carried_out)
 }

@@ -10,6 +10,7 @@ pub fn count<V: Copy>(entries: &[Entry<V>], top: usize) -> usize
     ensures { result ≡ held_in (row_of top entries.now).held }
 {
     let used = top.min(entries.len());
+    // Kept: a `for` that counts, from the row's end. A chain of `take_while`, `filter` and `count` takes twice the time, at each close.
     let mut held = 0;
     for entry in entries[..used].iter().rev() {
         match entry {

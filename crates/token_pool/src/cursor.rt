@@ -23,6 +23,7 @@ pub struct Token {
 pub(crate) fn read(nodes: &[Node], cursor: Cursor) -> Option<Token>
     ensures { Reads (rest_at nodes.now) cursor result }
 {
+    // Kept: tests and an index. A chain of `checked_sub`, `get` and `filter` says the same three tests in no fewer words.
     let i = cursor.node as usize;
     if cursor.left == 0 || i >= nodes.len() {
         return None;
