@@ -167,7 +167,7 @@ module _ {V : Type 0} where
         let l = leb-false t.node.place p e in
         absurd (held (found_none p t.node.place (max a b) (listed (suc m) ts at) (subst (λ (x : List (Node V)). Ascends t.node.place (max a b) x) (sym (whole m ts at a b t t now tree)) (omega arith, rest_asc m ts at a b t now tree)) l))
 
-    past : found p (listed (suc m) ts at) ≢ None → t.node.place ≤ p
+    pub past : found p (listed (suc m) ts at) ≢ None → t.node.place ≤ p
     past held = past_at (leb t.node.place p) refl held
 
     skip : t.node.place ≢ p → del p (listed (suc m) ts at) ≡ t.node ∷ del p (listed m ts t.left ++ listed m ts t.right)

@@ -28,6 +28,11 @@ module _ {V : Type 0} where
   found_right p lo hi [] ys h l = refl
   found_right p lo hi (x ∷ xs) ys h l = let y = asc_ends (x.place + 1) hi xs h.1 in let rest = found_right p (x.place + 1) hi xs ys h.1 l in grind (arith, nat_tests)
 
+  -- a tree with a node has a level
+  pub some_suc : (n : ℕ) (ts : List (Tip V)) (a b at : ℕ) (t : Tip V) → Tree n ts a b at → slice_get ts at ≡ Some t → n ≡ suc (n - 1)
+  some_suc zero ts a b at t h e = cc
+  some_suc (suc n) ts a b at t h e = omega arith
+
   -- one step of a search
   module _ (m : ℕ) (ts : List (Tip V)) (at a b p : ℕ) (t : Tip V) (now : slice_get ts at ≡ Some t) (tree : Tree (suc m) ts a b at) where
     root : Rooted (Some t) (width m) a b (Tree m ts)

@@ -1,5 +1,5 @@
 -- Chains of nodes, and what a write does to them.
-use Rattle.std.proofs.Common.{◌≡◌, ℕ, zero, suc, ◌+◌, ◌-◌, ◌<◌, ◌≤◌, ◌≢◌, ◌⊎◌, List, ◌∷◌, length, get_or, drop, set, sym, refl, ap, ◌∙◌, subst, ⊎_elim, add-one, arith, length-set}
+use Rattle.std.proofs.Common.{inl, inr, ◌≡◌, ℕ, zero, suc, ◌+◌, ◌-◌, ◌<◌, ◌≤◌, ◌≢◌, ◌⊎◌, List, ◌∷◌, length, get_or, drop, set, sym, refl, ap, ◌∙◌, subst, ⊎_elim, add-one, arith, length-set}
 use Rattle.std.proofs.lemmas.List.{get_or-set_same, get_or-set_other, get_or_default, drop_more}
 use Rattle.std.proofs.lemmas.Bool.{cases_eq, cases_lt}
 use Rattle.std.proofs.lemmas.Grind.{common_steps}
@@ -114,9 +114,18 @@ push_tokens ns o i k x v l en ne h =
     let r : tokens_from (set ns x v) i k ≡ tokens_from ns i k = tokens_set ns o i k x v (λ e. absurd (ne e)) h in
     rw (add-one k) (cc)
 
+pub moved_none : (ns : List Node) (o p : ℕ) → Moved ns ns o p
+moved_none ns o p j = inl refl
+
 pub moved_more : (ns ms : List Node) (o p i : ℕ) (v : Node) → i < length ms → (at ms i).owner ≡ o → v.owner ≡ p
     → Moved ns ms o p → Moved ns (set ms i v) o p
 moved_more ns ms o p i v l eo ep f j = grind (arith, common_steps)
+
+pub moved_trans : (ns ms ls : List Node) (o p : ℕ) → Moved ns ms o p → Moved ms ls o p → Moved ns ls o p
+moved_trans ns ms ls o p f g j =
+    ⊎_elim (λ e. ⊎_elim (λ d. inl (d ∙ e)) (λ d. inr (ap (λ (n : Node). n.owner) (sym e) ∙ d.0, d.1)) (g j))
+    (λ e. ⊎_elim (λ d. inr (e.0, ap (λ (n : Node). n.owner) d ∙ e.1)) (λ d. inr (e.0, d.1)) (g j))
+    (f j)
 
 -- what a move from o to p leaves of another list
 pub moved_at : (ns ms : List Node) (o p c : ℕ) → Moved ns ms o p → c ≢ o → (j : ℕ) → (at ns j).owner ≡ c → at ms j ≡ at ns j
